@@ -1,0 +1,72 @@
+//! Want of memory, and plain data that can be copied.
+
+ghost use Rattle.std.specs.Prelude.{◌≡◌, IfOk};
+
+use std::alloc::{AllocError, AllocFailed};
+
+/// Memory ran out.
+#[derive(Clone, Copy, Debug, PartialEq, Eq)]
+pub struct NoMemory;
+
+/// A fault, or want of memory.
+#[derive(Debug, Drop)]
+pub enum Or<F> {
+    Fault(F),
+    NoMemory,
+}
+
+impl<F> From<NoMemory> for Or<F> {
+    ghost use Rattle.io_caps.specs.declared.memory.Or.TheVariants.{NoMemory};
+
+    ghost from_gives = { λ _ e. e ≡ NoMemory };
+
+    fn from(_error: NoMemory) -> Or<F> {
+        Or::NoMemory
+    }
+}
+
+impl From<AllocError> for NoMemory {
+    fn from(_error: AllocError) -> NoMemory {
+        NoMemory
+    }
+}
+
+impl<T: Drop> From<AllocFailed<T>> for NoMemory {
+    fn from(_error: AllocFailed<T>) -> NoMemory {
+        NoMemory
+    }
+}
+
+/// Plain data, of which an equal value can be made.
+pub trait TryCopy: Drop {
+    /// An equal value, or want of memory.
+    fn copy(&self) -> Result<Self, NoMemory>
+        ensures { IfOk result (λ made. made ≡ self.now) };
+}
+
+impl TryCopy for u8 {
+    fn copy(&self) -> Result<u8, NoMemory> {
+        Ok(*self)
+    }
+}
+
+impl TryCopy for u64 {
+    fn copy(&self) -> Result<u64, NoMemory> {
+        Ok(*self)
+    }
+}
+
+impl TryCopy for bool {
+    fn copy(&self) -> Result<bool, NoMemory> {
+        Ok(*self)
+    }
+}
+
+impl<T: TryCopy> TryCopy for Option<T> {
+    fn copy(&self) -> Result<Option<T>, NoMemory> {
+        match self {
+            None => Ok(None),
+            Some(value) => Ok(Some(value.copy()?)),
+        }
+    }
+}
