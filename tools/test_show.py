@@ -1,0 +1,382 @@
+"""Tests of tools/show. Run: python3 tools/test_show.py"""
+
+from __future__ import annotations
+
+import importlib.machinery
+import importlib.util
+import pathlib
+import random
+import re
+import subprocess
+import sys
+import unittest
+
+sys.dont_write_bytecode = True
+PROGRAM = pathlib.Path(__file__).resolve().with_name("show")
+LOADER = importlib.machinery.SourceFileLoader("show", str(PROGRAM))
+show = importlib.util.module_from_spec(importlib.util.spec_from_loader("show", LOADER))
+sys.modules["show"] = show
+LOADER.exec_module(show)
+
+CAPTURE_MAGIC = "43484d434150310a"
+RESULT_MAGIC = "43484d524553310a"
+END = "45 00000000"
+DEVICE = """0000bb80 0002 0000000000000000 01 01 02
+    01 61 02 10 60 01 01
+    01 78 02 10 60 00000001 ff ff00 ff00
+    01 79 02 18 61 00000002 ff ff00 ff00"""
+CAPTURE = bytes.fromhex(
+    f"""{CAPTURE_MAGIC}
+    44 00000034 {DEVICE}
+    50 00000015 00 8060 0000 00000004 00000063 1111 2222 3333 4444
+    54 00000004 00000003
+    41 0000000d 00 00 02 00 01 000000 01 01 000001
+    54 00000004 00000003
+    {END}"""
+)
+RESULT = bytes.fromhex(
+    f"""{RESULT_MAGIC}
+    43 0000001d 0000000000000000 00 8060 0000 00000000 00000001 0000000000000000
+    43 00000021 0000000000000001 00 8061 0000 00000000 00000002 000000000000000000000000
+    43 0000001d 0000000000000002 00 8060 0001 00000002 00000001 0000000000000000
+    48 00000025 0000000000000003 00 0000000000000001 0000000000000002 00 02 00 01 000000 01 01 000001
+    52 00000023 00 0000000000000000 0000000000000003 01 00 0000000000000001 0000000000000002
+    43 00000021 0000000000000003 00 8061 0001 00000002 00000002 000000000000000000000000
+    43 0000001d 0000000000000004 01 8060 0002 00000004 00000001 1111 0000 3333 0000
+    43 00000021 0000000000000005 01 8061 0002 00000004 00000002 222200 000000 444400 000000
+    {END}"""
+)
+CAPTURE_LINES = """\
+       0  capture
+       8  device   48000 Hz, 2 frames a tick, base 0, hold 1, 1 input, 2 outputs
+      30    input a: 2 channels, L16, type 96, block size 1, reordering
+      37    output x: 2 channels, L16, type 96, SSRC 1, routable all, base row 0 <- unrouted, 1 <- unrouted
+      51    output y: 2 channels, L24, type 97, SSRC 2, routable all, base row 0 <- unrouted, 1 <- unrouted
+      65  packet   input a, type 96, sequence 0, timestamp 4, SSRC 99, 8 payload bytes: 1111 2222 | 3333 4444
+      91  work     3 claims
+     100  request  client 0, activation at once: x 0 <- a 0, y 0 <- a 1
+     118  work     3 claims
+     127  end
+"""
+RESULT_LINES = """\
+       0  result
+       8  claim    0, output x, tick 0, found none, type 96, sequence 0, timestamp 0, SSRC 1, 8 payload bytes: 0000 0000 | 0000 0000
+      42  claim    1, output y, tick 0, found none, type 97, sequence 0, timestamp 0, SSRC 2, 12 payload bytes: 000000 000000 | 000000 000000
+      80  claim    2, output x, tick 1, found none, type 96, sequence 1, timestamp 2, SSRC 1, 8 payload bytes: 0000 0000 | 0000 0000
+     114  call     at 3 claims, client 0, id 1, tick 2, activation at once: x 0 <- a 0, y 0 <- a 1
+     156  reply    client 0, at 0 calls and 3 claims, activated, id 1, tick 2
+     196  claim    3, output y, tick 1, found none, type 97, sequence 1, timestamp 2, SSRC 2, 12 payload bytes: 000000 000000 | 000000 000000
+     234  claim    4, output x, tick 2, found a, type 96, sequence 2, timestamp 4, SSRC 1, 8 payload bytes: 1111 0000 | 3333 0000
+     268  claim    5, output y, tick 2, found a, type 97, sequence 2, timestamp 4, SSRC 2, 12 payload bytes: 222200 000000 | 444400 000000
+     306  end
+"""
+
+
+def lines_of(data: bytes, view: show.View | None = None) -> tuple[list[str], list[str]]:
+    """The lines and, of these, the faults."""
+    view = view or show.View()
+    return list(show.show(data, view)), view.faults
+
+
+def record(tag: str, body: str) -> str:
+    return f"{ord(tag):02x} {len(bytes.fromhex(body)):08x} {body}"
+
+
+def line_of(tag: str, body: str, with_device: bool = True) -> str:
+    """The line of one record, without its offset, of a text that has no fault."""
+    if tag in "DJPQAT":
+        device = record("D", DEVICE) if with_device else ""
+        lines, faults = lines_of(bytes.fromhex(CAPTURE_MAGIC + device + record(tag, body) + END))
+    else:
+        view = show.View()
+        if with_device:
+            list(show.show(CAPTURE, view))
+        lines, faults = lines_of(bytes.fromhex(RESULT_MAGIC + record(tag, body) + END), view)
+    if faults:
+        raise AssertionError(faults)
+    return lines[-2][10:]
+
+
+def faults_of(data: str) -> list[str]:
+    return lines_of(bytes.fromhex(data))[1]
+
+
+def run(*words: str, data: bytes = b"") -> tuple[int, str, str]:
+    done = subprocess.run(
+        [sys.executable, str(PROGRAM), *words], input=data, capture_output=True, check=False
+    )
+    return done.returncode, done.stdout.decode(), done.stderr.decode()
+
+
+class WorkedBytes(unittest.TestCase):
+    def test_lengths(self) -> None:
+        self.assertEqual((len(CAPTURE), len(RESULT)), (132, 311))
+
+    def test_stored_run(self) -> None:
+        folder = PROGRAM.parent.parent / "crates" / "chanmap"
+        self.assertEqual((folder / "stdin").read_bytes(), CAPTURE)
+        self.assertEqual((folder / "stdout").read_bytes(), RESULT)
+        self.assertEqual((folder / "args").read_text(), "serial\n")
+
+    def test_worked_example_of_the_document(self) -> None:
+        text = (PROGRAM.parent.parent / "docs" / "FORMATS.md").read_text(encoding="utf-8")
+        _, capture, result = text[text.index("\n## A worked example") :].split("\n### The ")
+        for part, data in ((capture, CAPTURE), (result, RESULT)):
+            spelled = b""
+            for at, digits in re.findall(r"^\| (\d+) \| `([0-9a-f ]+)` \|", part, re.MULTILINE):
+                self.assertEqual(int(at), len(spelled))
+                spelled += bytes.fromhex(digits)
+            self.assertEqual(spelled, data)
+
+    def test_capture(self) -> None:
+        lines, faults = lines_of(CAPTURE)
+        self.assertEqual("\n".join(lines) + "\n", CAPTURE_LINES)
+        self.assertEqual(faults, [])
+
+    def test_result_with_device(self) -> None:
+        view = show.View()
+        list(show.show(CAPTURE, view))
+        lines, faults = lines_of(RESULT, view)
+        self.assertEqual("\n".join(lines) + "\n", RESULT_LINES)
+        self.assertEqual(faults, [])
+
+    def test_both_behind_one_another(self) -> None:
+        lines, faults = lines_of(CAPTURE + RESULT)
+        self.assertEqual(faults, [])
+        behind = [f"{int(line[:8]) + 132:>8}{line[8:]}" for line in RESULT_LINES.splitlines()]
+        self.assertEqual("\n".join(lines).splitlines(), CAPTURE_LINES.splitlines() + behind)
+
+    def test_result_alone_has_numbers(self) -> None:
+        lines, faults = lines_of(RESULT)
+        self.assertEqual(faults, [])
+        self.assertIn("activation at once: #0 0 <- #0 0, #1 0 <- #0 1", lines[4])
+        self.assertEqual(
+            lines[7],
+            "     234  claim    4, found #0, type 96, sequence 2, timestamp 4, SSRC 1, "
+            "8 payload bytes: 11 11 00 00 33 33 00 00",
+        )
+
+    def test_number_of_samples(self) -> None:
+        lines, _ = lines_of(CAPTURE, show.View(3))
+        self.assertTrue("\n".join(lines).splitlines()[5].endswith(": 1111 2222 | 3333 .."))
+        lines, _ = lines_of(CAPTURE, show.View(0))
+        self.assertTrue("\n".join(lines).splitlines()[5].endswith(", 8 payload bytes"))
+        lines, _ = lines_of(RESULT, show.View(1))
+        self.assertTrue(lines[1].endswith(", 8 payload bytes: 00 00 00 .."))
+
+
+class Records(unittest.TestCase):
+    def test_whole_device(self) -> None:
+        body = """0000ac44 00f0 0000000000000007 40 02 01
+            02 6964 04 18 61 02 00   01 62 01 10 00 01 01
+            01 78 02 18 7f ffffffff 03 00 01 fe 01 00 00 03"""
+        device = f"{CAPTURE_MAGIC} {record('D', body)} {END}"
+        lines, faults = lines_of(bytes.fromhex(device))
+        self.assertEqual(faults, [])
+        self.assertEqual(
+            [line[10:] for line in lines[1].splitlines()],
+            [
+                "device   44100 Hz, 240 frames a tick, base 7, hold 64, 2 inputs, 1 output",
+                "  input id: 4 channels, L24, type 97, block size 2, no reordering",
+                "  input b: 1 channel, L16, type 0, block size 1, reordering",
+                "  output x: 2 channels, L24, type 127, SSRC 4294967295, "
+                "routable id b unrouted, base row 0 <- b 0, 1 <- id 3",
+            ],
+        )
+
+    def test_base_is_the_first_tick(self) -> None:
+        view = show.View(0, show.Device(5, 1, [], [show.Port("x", 1, 16), show.Port("y", 1, 24)]))
+        packet = "8061 0007 00000007 00000002 000000"
+        data = RESULT_MAGIC + record("C", f"0000000000000005 {packet}") + END
+        lines, faults = lines_of(bytes.fromhex(data), view)
+        self.assertEqual(faults, [])
+        self.assertIn("claim    5, output y, tick 7, found none,", lines[1])
+
+    def test_text_records(self) -> None:
+        self.assertEqual(line_of("J", "7b22c3bc223a317d0a", False), 'device   JSON {"ü":1}\\n')
+        self.assertEqual(
+            line_of("Q", "03 474554202f20ff0d0a"), "stream   client 3, GET / \\xff\\r\\n"
+        )
+
+    def test_requests(self) -> None:
+        at = "0000000000000009 00000001"
+        expected = {
+            "00 00": "activation at once: no output",
+            "00 01 02 00": "activation at once: #2 as it is",
+            f"01 {at} 01 01 02 00 ff00 01 0001": "activation at 9:1: y 0 <- unrouted, y 1 <- a 1",
+            f"02 {at} 01 00 01 01 0500": "activation after 9:1: x 1 <- #5 0",
+            "03 0000000000000007": "deletion of id 7",
+            "04": "reading of the active map",
+            "05": "reading of the pending activations",
+        }
+        for body, words in expected.items():
+            with self.subTest(body=body):
+                self.assertEqual(line_of("A", f"0f {body}"), f"request  client 15, {words}")
+                call = f"{1:016x} 0f {2:016x} {3:016x} {body}"
+                start = "call     at 1 claim, client 15, id 2, tick 3, "
+                self.assertEqual(line_of("H", call), start + words)
+
+    def test_replies(self) -> None:
+        one, two = f"{1:016x}", f"{2:016x}"
+        expected = {
+            f"00 {one} {two}": "activated, id 1, tick 2",
+            f"01 {one} {two}": "scheduled, id 1, tick 2",
+            f"02 {one}": "deleted, id 1",
+            "03 00 ff00 0001 0000 ff00": "active, no activation: "
+            "x 0 <- unrouted, x 1 <- a 1, y 0 <- a 0, y 1 <- unrouted",
+            f"03 01 {one} 00 {two} ff00 ff00 ff00 ff00": "active, id 1, at once, tick 2: "
+            "x 0 <- unrouted, x 1 <- unrouted, y 0 <- unrouted, y 1 <- unrouted",
+            "04 00": "pending, none",
+            f"04 02 {one} 01 {two} 00000003 {two} 01 00 01 00 ff00 {two} 02 {one} 00000000 {one} 01 01 00": "pending, "
+            "id 1, at 2:3, tick 2: x 0 <- unrouted; id 2, after 1:0, tick 1: y as it is",
+            "10": "refused, no output named",
+            "11 09": "refused, output #9 isn't there",
+            "12 00 05": "refused, output x has no channel 5",
+            "13 01": "refused, output y is locked",
+            "14 00 01 00": "refused, output x: no input at channel 0",
+            "14 00 02 01": "refused, output x: no input channel at channel 1",
+            "14 01 03 00": "refused, output y: not routable at channel 0",
+            "14 01 04 00": "refused, output y: block not whole at channel 0",
+            "14 01 05 01": "refused, output y: block reordered at channel 1",
+            "15": "refused, time out of range",
+            f"16 {two}": "refused, id 2 isn't pending",
+            "17": "refused, table full",
+        }
+        for answer, words in expected.items():
+            with self.subTest(answer=answer):
+                line = line_of("R", f"02 {0:016x} {1:016x} 01 {answer}")
+                self.assertEqual(line, f"reply    client 2, at 0 calls and 1 claim, {words}")
+
+    def test_replies_of_other_forms(self) -> None:
+        start = f"00 {1:016x} {0:016x}"
+        words = "reply    client 0, at 1 call and 0 claims, "
+        self.assertEqual(line_of("R", f"{start} 00 485454500d0a"), f"{words}HTTP HTTP\\r\\n")
+        answer = line_of("R", f"{start} 01 03 00 ff00 0001", with_device=False)
+        self.assertEqual(answer, f"{words}active, no activation: ff00 0001")
+
+    def test_rtp_heads(self) -> None:
+        head = "0001 00000002 00000003"
+        fields = "type 96, sequence 1, timestamp 2, SSRC 3"
+        expected = {
+            f"80e0 {head} 0102 0304": f"{fields}, marker, 4 payload bytes: 0102 0304",
+            f"8260 {head} 00000001 00000002 0102": f"{fields}, 2 CSRCs, 2 payload bytes: 0102",
+            f"9060 {head} abcd 0001 00000009 0102": f"{fields}, extension of 1 word, 2 payload bytes: 0102",
+            f"a060 {head} 0102 0002": f"{fields}, 2 padding bytes, 2 payload bytes: 0102",
+            f"8060 {head}": f"{fields}, 0 payload bytes",
+            f"4060 {head}": "no RTP packet (RTP version 1), 12 bytes",
+            f"a060 {head} 05": "no RTP packet (padding of 5 bytes, 1 there), 13 bytes",
+            f"8160 {head} 00": "no RTP packet (field of 4 at 83, 1 there), 13 bytes",
+            "": "no RTP packet (field of 1 at 71, 0 there), 0 bytes",
+        }
+        for packet, words in expected.items():
+            with self.subTest(packet=packet):
+                self.assertEqual(line_of("P", f"00 {packet}"), f"packet   input a, {words}")
+
+
+class Faults(unittest.TestCase):
+    def test_cuts_of_records(self) -> None:
+        for length, fault in [
+            (0, "cut at 0: magic of 8 bytes, 0 there"),
+            (7, "cut at 0: magic of 8 bytes, 7 there"),
+            (8, "cut at 8: head of 5 bytes, 0 there"),
+            (64, "cut at 8: record of 52 bytes, 51 there"),
+            (126, "cut at 118: record of 4 bytes, 3 there"),
+            (131, "cut at 127: head of 5 bytes, 4 there"),
+        ]:
+            with self.subTest(length=length):
+                self.assertEqual(lines_of(CAPTURE[:length])[1], [fault])
+
+    def test_each_cut_is_told_once_and_last(self) -> None:
+        data = CAPTURE + RESULT
+        for length in range(len(data)):
+            with self.subTest(length=length):
+                lines, faults = lines_of(data[:length])
+                self.assertEqual(len(faults), 0 if length == len(CAPTURE) else 1)
+                self.assertTrue(all(line == lines[-1] and line.startswith("cut at ") for line in faults))
+
+    def test_unknown(self) -> None:
+        for data, fault in [
+            ("00" * 8, "unknown at 0: no capture or result begins here"),
+            (CAPTURE.hex() + "00", "unknown at 132: no capture or result begins here"),
+            (CAPTURE_MAGIC + "5a 00000001 00" + END, "unknown at 8: capture record with tag 5a"),
+            (CAPTURE_MAGIC + "43 00000000" + END, "unknown at 8: capture record with tag 43"),
+            (RESULT_MAGIC + "44 00000000" + END, "unknown at 8: result record with tag 44"),
+            (CAPTURE_MAGIC + record("A", "00 06") + END, "unknown at 8: op 06"),
+            (CAPTURE_MAGIC + record("A", "00 00 01 00 01 00 ff01") + END, "unknown at 8: cell ff 01"),
+            (RESULT_MAGIC + record("R", "00" * 17 + "02") + END, "unknown at 8: form 02"),
+            (RESULT_MAGIC + record("R", "00" * 17 + "01 05") + END, "unknown at 8: reply code 05"),
+            (RESULT_MAGIC + record("R", "00" * 17 + "01 14 00 06 00") + END, "unknown at 8: check 06"),
+            (RESULT_MAGIC + record("C", "00" * 8 + "01 0260") + END, "unknown at 8: RTP version 0"),
+        ]:
+            with self.subTest(data=data):
+                self.assertEqual(faults_of(data), [fault])
+
+    def test_wrong_lengths(self) -> None:
+        device = record("D", DEVICE)
+        for data, fault in [
+            (CAPTURE_MAGIC + record("T", "000001") + END, "wrong length at 8: field of 4 at 13, 3 there"),
+            (CAPTURE_MAGIC + record("T", "0000000100") + END, "wrong length at 8: 1 byte too many"),
+            (CAPTURE_MAGIC + record("P", "") + END, "wrong length at 8: field of 1 at 13, 0 there"),
+            (CAPTURE_MAGIC + record("D", DEVICE + "0000") + END, "wrong length at 8: 2 bytes too many"),
+            (CAPTURE_MAGIC + "45 00000001 00", "wrong length at 8: 1 byte too many"),
+            (
+                CAPTURE_MAGIC + device + END + RESULT_MAGIC + record("C", "00" * 9 + "8060") + END,
+                "wrong length at 78: packet of 20 bytes, 2 there",
+            ),
+        ]:
+            with self.subTest(data=data):
+                self.assertEqual(faults_of(data), [fault])
+
+    def test_goes_on_behind_a_whole_record(self) -> None:
+        lines, faults = lines_of(CAPTURE.replace(bytes.fromhex("54 00000004"), b"Z\0\0\0\4"))
+        self.assertEqual(len(faults), 2)
+        self.assertEqual(lines[-1], "     127  end")
+
+    def test_any_bytes_give_lines(self) -> None:
+        data, chance = CAPTURE + RESULT, random.Random(1)
+        for at in range(len(data)):
+            for value in (0x00, 0x01, 0x7F, 0xFE, 0xFF, chance.randrange(256)):
+                changed = data[:at] + bytes([value]) + data[at + 1 :]
+                self.assertTrue(lines_of(changed)[0])
+        for _ in range(2000):
+            noise = chance.randbytes(chance.randrange(80))
+            tag = chance.choice("DJPQATECHR")
+            magic = CAPTURE_MAGIC if tag in "DJPQATE" else RESULT_MAGIC
+            self.assertTrue(lines_of(bytes.fromhex(magic + record(tag, noise.hex()) + END))[0])
+
+
+class Command(unittest.TestCase):
+    def test_standard_input(self) -> None:
+        self.assertEqual(run(data=CAPTURE), (0, CAPTURE_LINES, ""))
+
+    def test_file_with_device(self) -> None:
+        folder = PROGRAM.parent.parent / "crates" / "chanmap"
+        words = ["--device", str(folder / "stdin"), str(folder / "stdout")]
+        self.assertEqual(run(*words), (0, RESULT_LINES, ""))
+
+    def test_status_of_faults(self) -> None:
+        status, out, err = run("--samples", "2", data=CAPTURE[:-1])
+        self.assertEqual((status, err), (1, ""))
+        self.assertTrue(out.endswith("cut at 127: head of 5 bytes, 4 there\n"))
+
+    def test_device_file_without_device(self) -> None:
+        folder = PROGRAM.parent.parent / "crates" / "chanmap"
+        status, out, err = run("--device", str(folder / "stdout"), data=RESULT)
+        self.assertEqual((status, out), (1, ""))
+        self.assertTrue(err.startswith("show: no device in "))
+
+    def test_wrong_words(self) -> None:
+        for words in (["--samples", "x"], ["no such file"], ["--unknown"]):
+            with self.subTest(words=words):
+                status, out, err = run(*words)
+                self.assertEqual((status, out), (2, ""))
+                self.assertNotIn("Traceback", err)
+
+    def test_help(self) -> None:
+        status, out, _ = run("--help")
+        self.assertEqual(status, 0)
+        self.assertIn("--device FILE", out)
+
+
+if __name__ == "__main__":
+    unittest.main()
