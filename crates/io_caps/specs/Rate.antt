@@ -1,5 +1,6 @@
 -- How a stream is sampled.
 use Rattle.std.specs.Prelude.{◌≡◌, ℕ, ◌≤◌, ◌⊎◌}
+use Rattle.io_caps.specs.declared.limits.TheConstants.{MOST_FRAMES}
 use Rattle.io_caps.specs.declared.rate.Width.{Width}
 use Rattle.io_caps.specs.declared.rate.Width.TheVariants.{L16, L24}
 use Rattle.io_caps.specs.declared.rate.Rate.{Rate}
@@ -9,10 +10,6 @@ abbrev pub bytes_per_sample : Width → ℕ
 bytes_per_sample L16 = 2
 bytes_per_sample L24 = 3
 
--- The most frames of a tick. (This project's own, as the four rates are.)
-abbrev pub most_frames : ℕ
-most_frames = 240
-
--- One of the four rates, with 1 to 240 frames a tick.
+-- One of the four rates, with 1 to 240 frames a tick. (This project's own.)
 abbrev pub IsRate : Rate → Type 0
-IsRate r = ((r.hz ≡ 44100) ⊎ (r.hz ≡ 48000) ⊎ (r.hz ≡ 96000) ⊎ (r.hz ≡ 192000)) × (1 ≤ r.frames) × (r.frames ≤ most_frames)
+IsRate r = ((r.hz ≡ 44100) ⊎ (r.hz ≡ 48000) ⊎ (r.hz ≡ 96000) ⊎ (r.hz ≡ 192000)) × (1 ≤ r.frames) × (r.frames ≤ MOST_FRAMES)

@@ -82,6 +82,16 @@ impl<T: Drop> ListOf<T> {
         Ok(())
     }
 
+    /// Moves the items of another list to the end. Want of memory leaves the list as it was, and lets the others go.
+    pub fn append(&mut self, more: ListOf<T>) -> Result<(), NoMemory>
+        ensures ok { OnOk result (self.new ≡ self.old ++ more) }
+        ensures err { OnErr result (self.new ≡ self.old) }
+    {
+        let ListOf { mut items } = more;
+        self.items.append(&mut items)?;
+        Ok(())
+    }
+
     /// Puts an item in place of the one at a place that is there, which takes no memory.
     pub fn set(&mut self, at: usize, item: T)
         requires { at < length self.old }

@@ -50,8 +50,26 @@ impl TryCopy for u8 {
     }
 }
 
+impl TryCopy for u32 {
+    fn copy(&self) -> Result<u32, NoMemory> {
+        Ok(*self)
+    }
+}
+
+impl TryCopy for i32 {
+    fn copy(&self) -> Result<i32, NoMemory> {
+        Ok(*self)
+    }
+}
+
 impl TryCopy for u64 {
     fn copy(&self) -> Result<u64, NoMemory> {
+        Ok(*self)
+    }
+}
+
+impl TryCopy for u128 {
+    fn copy(&self) -> Result<u128, NoMemory> {
         Ok(*self)
     }
 }
@@ -68,5 +86,11 @@ impl<T: TryCopy> TryCopy for Option<T> {
             None => Ok(None),
             Some(value) => Ok(Some(value.copy()?)),
         }
+    }
+}
+
+impl<A: TryCopy, B: TryCopy> TryCopy for (A, B) {
+    fn copy(&self) -> Result<(A, B), NoMemory> {
+        Ok((self.0.copy()?, self.1.copy()?))
     }
 }

@@ -3,6 +3,7 @@
 ghost use Rattle.std.specs.Prelude.{◌≡◌, ◌↔◌, IsTrue};
 ghost use Rattle.io_caps.specs.Rate.{IsRate, bytes_per_sample};
 
+use crate::limits::MOST_FRAMES;
 use crate::{NoMemory, TryCopy};
 
 /// How many bits a sample of a stream has: 16 (L16, RFC 3551 section 4.5.11) or 24 (L24, RFC 3190 section 4).
@@ -44,7 +45,7 @@ impl Rate {
     {
         (self.hz == 44100 || self.hz == 48000 || self.hz == 96000 || self.hz == 192000)
             && self.frames >= 1
-            && self.frames <= 240
+            && self.frames <= MOST_FRAMES
     }
 }
 

@@ -1,0 +1,16 @@
+//! The outside as traits: sources that bytes are read from and sinks that bytes are written to, each with a count of
+//! its faults; both in memory and over the standard streams; and the reading of a whole source and the writing of a
+//! whole text.
+#![tactic(auto)]
+
+mod memory;
+mod standard;
+mod streams;
+#[cfg(test)]
+mod tests;
+mod whole;
+
+pub use memory::{MemSink, MemSource};
+pub use standard::{StdSink, StdSource};
+pub use streams::{Failed, Sink, Source};
+pub use whole::{Unread, read_whole, write_whole};

@@ -1,0 +1,6 @@
+pub mod Loops
+pub mod Growth
+pub mod Exact
+pub mod FieldLaws
+pub mod WholeLaws
+pub mod ReaderLaws

@@ -1,0 +1,23 @@
+//! Texts of bytes that are read exactly: readers at the front of a slice, spellings, and the laws that what is read
+//! is spelled so and that what is spelled so is read again, whatever follows.
+//!
+//! A reading is a function from bytes to a value and the bytes after it. Each reader here returns just what its
+//! reading gives (`Gives`), so a crate above proves its own readers by unfolding one `do` block. A spelling is a
+//! function from a value to bytes. That both fit each other (`Exact`, in the proofs of this crate) takes one line a
+//! field: `field_then`, `byte_then`, `number_then`, `text_then`, `many_then`, and `record_then` for tagged bodies.
+#![tactic(auto)]
+
+mod fields;
+mod misread;
+mod readers;
+mod writers;
+
+pub use fields::{Field, many};
+pub use misread::Misread;
+pub use readers::{
+    byte, expected, literal, nothing_behind, number16, number32, number64, record, slice, text,
+};
+pub use writers::{push_record, push16, push32, push64};
+
+#[cfg(test)]
+mod tests;
