@@ -1,0 +1,22 @@
+-- Ticks: packet times, of `frames` frames each. Tick 0 begins with TAI. (This project's own; IS-08 counts times in TAI.)
+use Rattle.std.specs.Prelude.{ℕ}
+use Rattle.io_caps.specs.declared.rate.Rate.{Rate}
+use Rattle.tai_time.specs.Unit.{unit_start, unit_up, unit_of, IsUnitUp, IsUnitOf}
+
+-- The start of a tick in nanoseconds, rounded down.
+abbrev pub tick_start : Rate → ℕ → ℕ
+tick_start rate tick = unit_start rate.frames rate.hz tick
+
+-- The least tick whose exact start is at or after a time in nanoseconds.
+abbrev pub tick_up : Rate → ℕ → ℕ
+tick_up rate nanos = unit_up rate.frames rate.hz nanos
+
+-- The tick in which a time lies: the greatest whose exact start is at or before it.
+abbrev pub tick_of : Rate → ℕ → ℕ
+tick_of rate nanos = unit_of rate.frames rate.hz nanos
+
+abbrev pub IsTickUp : Rate → ℕ → ℕ → Type 0
+IsTickUp rate nanos tick = IsUnitUp rate.frames rate.hz nanos tick
+
+abbrev pub IsTickOf : Rate → ℕ → ℕ → Type 0
+IsTickOf rate nanos tick = IsUnitOf rate.frames rate.hz nanos tick

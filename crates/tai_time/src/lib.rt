@@ -1,0 +1,10 @@
+//! TAI times, and the ticks (packet times) that they lie in, exact and without floating point.
+#![tactic(auto)]
+
+mod tai;
+#[cfg(test)]
+mod tests;
+mod tick;
+
+pub use tai::{NANOS_PER_SECOND, SECS_LIMIT, Tai, TaiFault};
+pub use tick::{add, tick_of, tick_start, tick_up};
