@@ -1,0 +1,5 @@
+pub mod Ascending
+pub mod Changes
+pub mod Rows
+pub mod Selection
+pub mod Tick

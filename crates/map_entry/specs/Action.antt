@@ -1,0 +1,50 @@
+-- Changes of rows. (This project's own, after the activations of IS-08.)
+use Rattle.std.specs.Prelude.{ℕ, ◌<◌, eqb, List, length, fold, slice_set, All, Option, Some, None, IfSome}
+use Rattle.std.specs.List.{find, AllAdjacentBelow}
+use Rattle.map_entry.specs.declared.cell.Cell.{Cell}
+use Rattle.map_entry.specs.declared.change.Change.{Change}
+
+-- what an action changes of one output
+pub record OutputChangeParts : Type 0 where
+  pub output : ℕ
+  pub changes : List Change
+
+abbrev pub output_change : ℕ → List Change → OutputChangeParts
+output_change output changes = record { output = output; changes = changes }
+
+-- the number of each item is below that of the next, so no two are alike
+abbrev pub AreAscending : {X : Type 0} → (X → ℕ) → List X → Type 0
+AreAscending number items = AllAdjacentBelow (λ x y. number x < number y) items (length items)
+
+-- the channels ascend
+abbrev pub IsOutputChange : OutputChangeParts → Type 0
+IsOutputChange c = AreAscending (λ change. change.channel) c.changes
+
+-- the outputs ascend, and the channels of each do
+pub record IsAction (action : List OutputChangeParts) : Type 0 where
+  pub outputs : AreAscending (λ c. c.output) action
+  pub changes : All IsOutputChange action
+
+-- the row with each named channel set to its cell
+abbrev pub with_changes : List Change → List Cell → List Cell
+with_changes changes row = fold (λ made change. slice_set made change.channel change.cell) row changes
+
+-- what an action changes of an output, where it names it
+abbrev pub change_of : List OutputChangeParts → ℕ → Option OutputChangeParts
+change_of action output = find (λ c. eqb c.output output) action
+
+-- the row with what an action changes of its output: the row itself, where the action doesn't name the output
+abbrev pub applied_by : Option OutputChangeParts → List Cell → List Cell
+applied_by None row = row
+applied_by (Some change) row = with_changes change.changes row
+
+abbrev pub applied : List Cell → List OutputChangeParts → ℕ → List Cell
+applied row action output = applied_by (change_of action output) row
+
+-- each change names a channel that is in the row
+abbrev pub NamesChannels : ℕ → OutputChangeParts → Type 0
+NamesChannels channels c = All (λ change. change.channel < channels) c.changes
+
+-- what the action changes of the output names channels of a row of so many
+abbrev pub FitsRow : List OutputChangeParts → ℕ → ℕ → Type 0
+FitsRow action output channels = IfSome (change_of action output) (NamesChannels channels)

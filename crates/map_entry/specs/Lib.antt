@@ -1,0 +1,4 @@
+pub mod Action
+pub mod Entry
+pub mod Setup
+pub mod Tick

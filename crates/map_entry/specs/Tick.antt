@@ -1,0 +1,15 @@
+-- Which packet a claim is. With n outputs, claim k is the packet of output k mod n at the tick k div n from the base.
+-- (This project's own.)
+use Rattle.std.specs.Prelude.{ℕ, ◌+◌, ◌-◌, ◌/◌, ◌%◌}
+
+-- the tick of a claim
+abbrev pub claim_tick : ℕ → ℕ → ℕ → ℕ
+claim_tick base outputs claim = base + claim / outputs
+
+-- the output of a claim
+abbrev pub claim_output : ℕ → ℕ → ℕ
+claim_output outputs claim = claim % outputs
+
+-- the first tick not begun after so many claims
+abbrev pub first_tick : ℕ → ℕ → ℕ → ℕ
+first_tick base outputs claims = base + (claims + (outputs - 1)) / outputs

@@ -1,0 +1,33 @@
+//! Which packet a claim is.
+
+ghost use Rattle.std.specs.Prelude.{◌≡◌, ◌<◌, ◌^◌};
+ghost use Rattle.map_entry.specs.Tick.{claim_tick, claim_output, first_tick};
+
+/// The output of a claim.
+pub fn claim_output(outputs: u8, claim: u64) -> u8
+    requires { 0 < outputs }
+    ensures value { result ≡ claim_output outputs claim }
+    ensures within { result < outputs }
+{
+    (claim % outputs as u64) as u8
+}
+
+/// The tick of a claim.
+pub fn claim_tick(base: u64, outputs: u8, claim: u64) -> u64
+    requires some { 0 < outputs }
+    requires sum { claim_tick base outputs claim < 2 ^ 64 }
+    ensures { result ≡ claim_tick base outputs claim }
+{
+    base + claim / outputs as u64
+}
+
+/// The first tick of which no packet is claimed yet.
+pub fn first_tick(base: u64, outputs: u8, claims: u64) -> u64
+    requires some { 0 < outputs }
+    requires claims { claims < 2 ^ 40 }
+    requires sum { first_tick base outputs claims < 2 ^ 64 }
+    ensures { result ≡ first_tick base outputs claims }
+{
+    let outputs = outputs as u64;
+    base + (claims + (outputs - 1)) / outputs
+}

@@ -1,0 +1,37 @@
+//! What is routed to the outputs: cells and rows, entries and which of them rules a tick, actions, and the setup of a
+//! device with its base rows.
+#![tactic(auto)]
+
+mod action;
+mod cell;
+mod change;
+mod claims;
+mod entry;
+mod fault;
+mod routing;
+mod setup;
+
+pub use action::Action;
+pub use cell::Cell;
+pub use change::{Change, OutputChange};
+pub use claims::{claim_output, claim_tick, first_tick};
+pub use entry::Entry;
+pub use fault::{RowFault, SetupFault};
+use io_caps::ListOf;
+pub use routing::{apply, select};
+pub use setup::Setup;
+
+/// What an output is routed from: a cell for each channel.
+pub type Row = ListOf<Cell>;
+
+/// A row for each output.
+pub type Rows = ListOf<Row>;
+
+/// Entries, in the order of their publication.
+pub type Entries = ListOf<Entry>;
+
+/// Changes of the channels of one output.
+pub type Changes = ListOf<Change>;
+
+#[cfg(test)]
+mod tests;

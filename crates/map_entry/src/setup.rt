@@ -1,0 +1,112 @@
+//! A device with its base rows.
+
+ghost use Rattle.std.specs.Prelude.{◌≡◌, ◌<◌, ◌≤◌, ◌↔◌, IsTrue, IfOk, IfErr, OnOk, OnErr, Some, All, List, length, slice_get, IsSomeAnd};
+ghost use Rattle.std.specs.List.{AllZip};
+ghost use Rattle.io_caps.specs.declared.limits.TheConstants.{MOST_CHANNELS, MOST_OUTPUTS};
+ghost use Rattle.map_entry.specs.Setup.{IsSetup, IsBrokenBy, HasCells, NamesChannel, setup_of};
+ghost use Rattle.io_caps.specs.Memory.{IsFaultAnd};
+
+use crate::{Cell, Row, RowFault, Rows, SetupFault};
+use io_caps::{Device, Input, NoMemory, Or, Output, TryCopy};
+use std::alloc::Global;
+use std::marker::Model;
+
+/// A device with a base row for each output, which has a cell for each channel. The cells name channels that are there.
+#[derive(Debug, Drop)]
+pub struct Setup {
+    pub device: Device,
+    pub rows: Rows,
+}
+
+impl Model for Setup {
+    ghost use Rattle.map_entry.specs.Setup.{SetupParts, setup_of, IsSetup};
+
+    ghost Value = { SetupParts };
+
+    ghost view = { λ s. setup_of s.device s.rows };
+
+    ghost invariant = { λ s. IsSetup (setup_of s.device s.rows) };
+}
+
+impl Setup {
+    /// The device with these base rows. It is refused by a fault exactly where they don't fit the device: `Count`, or
+    /// `BaseRow` with `Input` or `Channel` (the row checks for blocks, order and routable lists aren't made yet). A refusal
+    /// drops both. No memory is taken.
+    pub fn build(alloc: Global, device: Device, rows: Rows) -> Result<Setup, Or<SetupFault>>
+        ensures ok { IfOk result (λ setup. setup ≡ setup_of device rows) }
+        ensures within { OnOk result (IsSetup (setup_of device rows)) }
+        ensures fault { OnErr result (IsSetup (setup_of device rows) → ⊥) }
+        ensures named { IfErr result (λ e. IsFaultAnd e (IsBrokenBy (setup_of device rows))) }
+    {
+        let _ = alloc;
+        if !have_cells(device.output_slice(), rows.as_slice()) {
+            return Err(Or::Fault(SetupFault::Count));
+        }
+        match check_rows(device.input_slice(), rows.as_slice()) {
+            Ok(()) => Ok(Setup { device, rows }),
+            Err((output, fault)) => Err(Or::Fault(SetupFault::BaseRow { output, fault })),
+        }
+    }
+
+    /// The base row of an output that is there.
+    pub fn row(&self, output: u8) -> &Row
+        requires { output < length self.now.device.outputs }
+        ensures value { slice_get self.now.rows output ≡ Some result.now }
+        ensures count { IsSomeAnd (slice_get self.now.device.outputs output) (λ o. HasCells o result.now) }
+        ensures cells { All (NamesChannel self.now.device.inputs) result.now }
+        ensures valid { IsSetup self.now }
+    {
+        &self.rows.as_slice()[output as usize]
+    }
+}
+
+fn have_cells(outputs: &[Output], rows: &[Row]) -> bool
+    ensures { IsTrue result ↔ AllZip HasCells outputs.now rows.now }
+{
+    match outputs {
+        [] => rows.is_empty(),
+        [output, outputs @ ..] => match rows {
+            [] => false,
+            [row, rows @ ..] => row.len() == output.channels() && have_cells(outputs, rows),
+        },
+    }
+}
+
+/// The first row that names what isn't there, by its output, with its fault.
+fn check_rows(inputs: &[Input], rows: &[Row]) -> Result<(), (u8, RowFault)>
+    requires few { length rows.now ≤ MOST_OUTPUTS }
+    requires short { All (λ row. length row ≤ MOST_CHANNELS) rows.now }
+    ensures ok { OnOk result (All (All (NamesChannel inputs.now)) rows.now) }
+    ensures fault { OnErr result (All (All (NamesChannel inputs.now)) rows.now → ⊥) }
+{
+    for output in 0..rows.len() {
+        if let Err(fault) = check_cells(inputs, rows[output].as_slice()) {
+            return Err((output as u8, fault));
+        }
+    }
+    Ok(())
+}
+
+/// The fault of the first cell that names an input that isn't there, or else of the first that names a channel that isn't.
+fn check_cells(inputs: &[Input], row: &[Cell]) -> Result<(), RowFault>
+    requires { length row.now ≤ MOST_CHANNELS }
+    ensures ok { OnOk result (All (NamesChannel inputs.now) row.now) }
+    ensures fault { OnErr result (All (NamesChannel inputs.now) row.now → ⊥) }
+{
+    if let Some(channel) = row.iter().position(|cell| !cell.names_input(inputs)) {
+        return Err(RowFault::Input(channel as u8));
+    }
+    if let Some(channel) = row.iter().position(|cell| !cell.names_channel(inputs)) {
+        return Err(RowFault::Channel(channel as u8));
+    }
+    Ok(())
+}
+
+impl TryCopy for Setup {
+    fn copy(&self) -> Result<Setup, NoMemory> {
+        Ok(Setup {
+            device: self.device.copy()?,
+            rows: self.rows.copy()?,
+        })
+    }
+}
