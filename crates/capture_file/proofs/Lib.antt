@@ -1,0 +1,10 @@
+pub mod CaptureLaws
+pub mod DeviceLaws
+pub mod Numbered
+pub mod Order
+pub mod PlainLaws
+pub mod RecordLaws
+pub mod RecordLoop
+pub mod ResultText
+pub mod Rising
+pub mod Whole

@@ -1,0 +1,10 @@
+pub mod Capture
+pub mod CaptureReading
+pub mod Device
+pub mod DeviceReading
+pub mod Fault
+pub mod Packets
+pub mod Plain
+pub mod RecordReading
+pub mod Records
+pub mod Result

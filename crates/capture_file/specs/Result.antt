@@ -1,0 +1,73 @@
+-- How a history is spelled as a result. (This project's own.)
+use Rattle.std.specs.Prelude.{All, ℕ, ◌+◌, ◌<◌, ◌^◌, ◌==◌, List, [], ◌∷◌, ◌++◌, length, map, codes, slice_get}
+use Rattle.std.specs.List.{filter, flat_map, range_with_len}
+use Rattle.std.specs.Option.{option_map_or}
+use Rattle.byteorder.specs.Endian.{big_bytes}
+use Rattle.exact_text.specs.Spellings.{record_text}
+use Rattle.capture_file.specs.declared.history.ClaimItem.{ClaimItem}
+use Rattle.capture_file.specs.declared.history.JournalCall.{JournalCall}
+use Rattle.capture_file.specs.declared.history.ReplyItem.{ReplyItem}
+use Rattle.capture_file.specs.declared.history.Said.{Said}
+use Rattle.capture_file.specs.declared.history.Said.TheVariants.{Plain}
+use Rattle.capture_file.specs.declared.history.History.{History}
+use Rattle.capture_file.specs.declared.requests.Reply.{Reply}
+use Rattle.capture_file.specs.declared.requests.Reply.TheVariants.{Activated}
+use Rattle.capture_file.specs.declared.tags.TheConstants.{CLAIM, CALL, REPLY, PLAIN_FORM, ACTIVATED}
+use Rattle.capture_file.specs.Device.{flag_byte}
+use Rattle.capture_file.specs.Records.{request_text, end_text, FitsRequest}
+
+-- ---- records
+
+-- claim number, a flag for each input, packet
+abbrev pub claim_body : ClaimItem → List ℕ
+claim_body c = big_bytes 8 c.k ++ (map flag_byte c.found ++ c.packet)
+
+unfoldable pub claim_text : ClaimItem → List ℕ
+claim_text c = record_text CLAIM (claim_body c)
+
+-- claims at acceptance, client, id, tick, request
+abbrev pub call_body : JournalCall → List ℕ
+call_body c = big_bytes 8 c.at ++ (c.client ∷ (big_bytes 8 c.id ++ (big_bytes 8 c.tick ++ request_text c.request)))
+
+unfoldable pub call_text : JournalCall → List ℕ
+call_text c = record_text CALL (call_body c)
+
+abbrev pub plain_reply_text : Reply → List ℕ
+plain_reply_text (Activated id tick) = ACTIVATED ∷ (big_bytes 8 id ++ big_bytes 8 tick)
+
+-- the form, and the answer
+abbrev pub said_text : Said → List ℕ
+said_text (Plain reply) = PLAIN_FORM ∷ plain_reply_text reply
+
+-- client, calls, claims, what was said
+abbrev pub reply_body : ReplyItem → List ℕ
+reply_body r = r.client ∷ (big_bytes 8 r.stamp.calls ++ (big_bytes 8 r.stamp.claims ++ said_text r.said))
+
+unfoldable pub reply_text : ReplyItem → List ℕ
+reply_text r = record_text REPLY (reply_body r)
+
+-- ---- the whole
+
+-- The calls that were accepted at a number of claims, the replies that were given there, and the claim of that number, where
+-- there is one.
+unfoldable pub text_at : History → ℕ → List ℕ
+text_at h claims =
+    flat_map call_text (filter (λ c. c.at == claims) h.journal)
+    ++ (flat_map reply_text (filter (λ r. r.stamp.claims == claims) h.replies) ++ option_map_or claim_text (slice_get h.claims claims) [])
+
+-- the magic, what stands at each number of claims from 0 to the last, and the last record
+unfoldable pub result_text : History → List ℕ
+result_text h = codes "CHMRES1\n" ++ (flat_map (text_at h) (range_with_len 0 (length h.claims + 1)) ++ end_text)
+
+-- ---- what the fields can hold
+
+abbrev pub FitsClaim : ClaimItem → Type 0
+FitsClaim c = length c.found + length c.packet + 8 < 2 ^ 32
+
+abbrev pub FitsCall : JournalCall → Type 0
+FitsCall c = FitsRequest c.request
+
+-- each record of a history fits the fields of a result
+pub record FitsHistory (h : History) : Type 0 where
+  pub claims : All FitsClaim h.claims
+  pub journal : All FitsCall h.journal

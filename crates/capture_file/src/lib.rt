@@ -1,0 +1,30 @@
+//! Captures and results: what they hold, and how they are read and written as bytes.
+#![tactic(auto)]
+
+mod assembly;
+mod capture;
+mod device;
+mod fault;
+mod fields;
+mod history;
+mod limits;
+mod plain;
+mod reading;
+#[cfg(test)]
+mod reading_tests;
+mod records;
+mod requests;
+mod result;
+#[cfg(test)]
+mod result_tests;
+mod tags;
+
+pub use capture::{Capture, read_capture};
+pub use fault::{CaptureFault, CaptureKind};
+pub use history::{
+    ClaimItem, ClaimItems, History, Journal, JournalCall, ReplyItem, ReplyItems, Said,
+};
+pub use limits::{MOST_CLIENTS, MOST_ENTRIES, MOST_TICKS};
+pub use records::{Item, Items};
+pub use requests::{Reply, Request, Stamp, When};
+pub use result::write_result;
