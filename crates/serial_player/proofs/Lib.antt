@@ -1,0 +1,9 @@
+pub mod Ranges
+pub mod Filing
+pub mod Places
+pub mod Payloads
+pub mod Fits
+pub mod Runs
+pub mod Found
+pub mod Claims
+pub mod Captures

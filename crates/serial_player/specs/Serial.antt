@@ -1,0 +1,48 @@
+-- The serial history of a capture: its records in order, on one thread. (This project's own.)
+use Rattle.std.specs.Prelude.{ℕ, ◌+◌, List, [], ◌∷◌, ◌++◌, length, map}
+use Rattle.std.specs.List.{fold, range_with_len}
+use Rattle.map_entry.specs.Setup.{SetupParts}
+use Rattle.capture_file.specs.Capture.{CaptureParts}
+use Rattle.capture_file.specs.declared.history.History.{History}
+use Rattle.capture_file.specs.declared.history.Said.TheVariants.{Plain}
+use Rattle.capture_file.specs.declared.records.Item.{Item}
+use Rattle.capture_file.specs.declared.records.Item.TheVariants.{Packet, Ask, Work}
+use Rattle.capture_file.specs.declared.requests.Request.{Request}
+use Rattle.serial_player.specs.declared.run.Run.{Run}
+use Rattle.serial_player.specs.Blocks.{block_of}
+use Rattle.serial_player.specs.Book.{reply_of, call_of}
+use Rattle.serial_player.specs.Packet.{claim_of}
+
+abbrev pub start : Run
+start = record { journal = []; replies = []; claims = 0 }
+
+-- the client's request is answered at the calls and claims so far, and its call is appended
+abbrev pub asked : SetupParts → Run → ℕ → Request → Run
+asked s run client request =
+    let reply = reply_of s run.journal run.claims request in
+    record {
+      journal = run.journal ++ call_of client run.claims request reply ∷ [];
+      replies = run.replies ++ record { client = client; stamp = record { calls = length run.journal; claims = run.claims }; said = Plain reply } ∷ [];
+      claims = run.claims;
+    }
+
+-- what a record does
+abbrev pub step : SetupParts → Run → Item → Run
+step s run (Packet input bytes) = run
+step s run (Ask client request) = asked s run client request
+step s run (Work claims) = record { journal = run.journal; replies = run.replies; claims = run.claims + claims }
+
+unfoldable pub run_of : SetupParts → List Item → Run
+run_of s items = fold (step s) start items
+
+-- The claims are the numbers below the last one, each by the whole journal and over the blocks of all packets.
+abbrev pub history_of : SetupParts → List Item → Run → History
+history_of s items run =
+    record {
+      claims = map (claim_of s run.journal (block_of s.device items)) (range_with_len 0 run.claims);
+      journal = run.journal;
+      replies = run.replies;
+    }
+
+unfoldable pub serial_history : CaptureParts → History
+serial_history c = history_of c.setup c.items (run_of c.setup c.items)
