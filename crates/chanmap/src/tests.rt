@@ -1,0 +1,451 @@
+//! Runs over objects in memory.
+
+use crate::top::chanmap;
+use chan_io::{MemSink, MemSource, StdSink};
+use std::alloc::Global;
+use std::process::Abort;
+use std::test::Fail;
+
+/// The bytes of a capture's magic and its device: one input `a` in L16, the outputs `x` in L16 and `y` in L24, of two
+/// channels each, which are unrouted.
+const DEVICE: &str = "43484d434150310a 44 00000034
+    0000bb80 0002 0000000000000000 01 01 02
+    01 61 02 10 60 01 01
+    01 78 02 10 60 00000001 ff ff00 ff00
+    01 79 02 18 61 00000002 ff ff00 ff00";
+
+/// Two ticks of claims, and the end.
+const TWO_TICKS: &str = "54 00000004 00000004 45 00000000";
+
+/// A packet of tick 2, three claims, an activation at once, three claims, and the end.
+const MID_TICK: &str = "50 00000015 00 8060 0000 00000004 00000063 1111 2222 3333 4444
+    54 00000004 00000003
+    41 0000000d 00 00 02 00 01 000000 01 01 000001
+    54 00000004 00000003
+    45 00000000";
+
+const SILENCE_RESULT: &str = "43484d524553310a
+    43 0000001d 0000000000000000 00 8060 0000 00000000 00000001 0000000000000000
+    43 00000021 0000000000000001 00 8061 0000 00000000 00000002 000000000000000000000000
+    43 0000001d 0000000000000002 00 8060 0001 00000002 00000001 0000000000000000
+    43 00000021 0000000000000003 00 8061 0001 00000002 00000002 000000000000000000000000
+    45 00000000";
+
+const MID_TICK_RESULT: &str = "43484d524553310a
+    43 0000001d 0000000000000000 00 8060 0000 00000000 00000001 0000000000000000
+    43 00000021 0000000000000001 00 8061 0000 00000000 00000002 000000000000000000000000
+    43 0000001d 0000000000000002 00 8060 0001 00000002 00000001 0000000000000000
+    48 00000025 0000000000000003 00 0000000000000001 0000000000000002 00 02 00 01 000000 01 01 000001
+    52 00000023 00 0000000000000000 0000000000000003 01 00 0000000000000001 0000000000000002
+    43 00000021 0000000000000003 00 8061 0001 00000002 00000002 000000000000000000000000
+    43 0000001d 0000000000000004 01 8060 0002 00000004 00000001 1111 0000 3333 0000
+    43 00000021 0000000000000005 01 8061 0002 00000004 00000002 222200 000000 444400 000000
+    45 00000000";
+
+/// Adds the bytes of hexadecimal digits. Other characters part them.
+fn push_hex(made: &mut Vec<u8>, digits: &str) -> Result<(), Fail> {
+    let mut high: Option<u8> = None;
+    for digit in digits.bytes() {
+        let value = match digit {
+            b'0'..=b'9' => digit - b'0',
+            b'a'..=b'f' => digit - b'a' + 10,
+            _ => continue,
+        };
+        match high {
+            None => high = Some(value),
+            Some(first) => {
+                made.push(first.wrapping_mul(16).wrapping_add(value))?;
+                high = None;
+            }
+        }
+    }
+    Ok(())
+}
+
+fn hex(alloc: Global, digits: &str) -> Result<Vec<u8>, Fail> {
+    let mut made = Vec::new(alloc);
+    push_hex(&mut made, digits)?;
+    Ok(made)
+}
+
+/// The device with these records.
+fn capture(alloc: Global, records: &str) -> Result<Vec<u8>, Fail> {
+    let mut made = hex(alloc, DEVICE)?;
+    push_hex(&mut made, records)?;
+    Ok(made)
+}
+
+/// The most bytes of an input.
+const MOST: usize = 1 << 26;
+
+/// How many bytes the source hands over in a read, and which calls fail, counted from 0: a read, a write of the result,
+/// and a write of the line.
+#[derive(Clone, Copy)]
+struct Outside {
+    piece: usize,
+    read: Option<u64>,
+    write: Option<u64>,
+    line: Option<u64>,
+}
+
+const NO_FAULT: Outside = Outside {
+    piece: 64,
+    read: None,
+    write: None,
+    line: None,
+};
+
+/// What a run answered, and what its two sinks took.
+#[derive(Drop)]
+struct Ran {
+    status: u8,
+    out: Vec<u8>,
+    err: Vec<u8>,
+}
+
+fn fails(alloc: Global, call: Option<u64>) -> Result<Vec<u64>, Fail> {
+    let mut calls = Vec::new(alloc);
+    if let Some(call) = call {
+        calls.push(call)?;
+    }
+    Ok(calls)
+}
+
+fn copied(alloc: Global, bytes: &[u8]) -> Result<Vec<u8>, Fail> {
+    let mut made = Vec::new(alloc);
+    made.extend_from_slice(bytes)?;
+    Ok(made)
+}
+
+fn strings(alloc: Global, words: &[&str]) -> Result<Vec<String>, Fail> {
+    let mut made = Vec::new(alloc);
+    for word in words {
+        made.push(String::from_str(alloc, word)?)?;
+    }
+    Ok(made)
+}
+
+fn run(alloc: Global, words: &[&str], input: Vec<u8>, outside: Outside) -> Result<Ran, Fail> {
+    let words = strings(alloc, words)?;
+    let mut src = MemSource::new(input, outside.piece.max(1), fails(alloc, outside.read)?);
+    let mut out = MemSink::new(alloc, fails(alloc, outside.write)?);
+    let mut err = MemSink::new(alloc, fails(alloc, outside.line)?);
+    let status = chanmap(alloc, &words, &mut src, &mut out, &mut err);
+    Ok(Ran {
+        status,
+        out: copied(alloc, out.taken())?,
+        err: copied(alloc, err.taken())?,
+    })
+}
+
+fn expect(rt: &impl Abort, ran: &Ran, status: u8, out: &[u8], line: &str) {
+    assert_eq!(rt; ran.status, status);
+    assert_eq!(rt; ran.out.as_slice(), out);
+    assert_eq!(rt; ran.err.as_slice(), line.as_bytes());
+}
+
+#[test]
+fn silence(rt: HostRuntime) -> Result<(), Fail> {
+    let alloc = rt.alloc();
+    let ran = run(alloc, &["serial"], capture(alloc, TWO_TICKS)?, NO_FAULT)?;
+    assert_eq!(rt; ran.out.len(), 157);
+    expect(&rt, &ran, 0, &hex(alloc, SILENCE_RESULT)?, "");
+    Ok(())
+}
+
+#[test]
+fn no_work(rt: HostRuntime) -> Result<(), Fail> {
+    let alloc = rt.alloc();
+    let ran = run(alloc, &["serial"], capture(alloc, "45 00000000")?, NO_FAULT)?;
+    expect(
+        &rt,
+        &ran,
+        0,
+        &hex(alloc, "43484d524553310a 45 00000000")?,
+        "",
+    );
+    Ok(())
+}
+
+#[test]
+fn mid_tick_activation(rt: HostRuntime) -> Result<(), Fail> {
+    let alloc = rt.alloc();
+    let input = capture(alloc, MID_TICK)?;
+    assert_eq!(rt; input.len(), 132);
+    let ran = run(alloc, &["serial"], input, NO_FAULT)?;
+    assert_eq!(rt; ran.out.len(), 311);
+    expect(&rt, &ran, 0, &hex(alloc, MID_TICK_RESULT)?, "");
+    Ok(())
+}
+
+/// With ample memory no run is without.
+#[test]
+fn always_no_memory(rt: HostRuntime) -> Result<(), Fail> {
+    let alloc = rt.alloc();
+    for records in ["45 00000000", TWO_TICKS, MID_TICK, ""] {
+        let ran = run(alloc, &["serial"], capture(alloc, records)?, NO_FAULT)?;
+        assert!(rt; ran.status != 12);
+    }
+    Ok(())
+}
+
+/// A source that hands over pieces of this length, and fails at this call.
+fn failing_read(alloc: Global, piece: usize, call: u64) -> Result<Ran, Fail> {
+    let outside = Outside {
+        piece,
+        read: Some(call),
+        ..NO_FAULT
+    };
+    run(alloc, &["serial"], capture(alloc, MID_TICK)?, outside)
+}
+
+/// The source fails at each of the calls that it gets, the last of which finds its end.
+fn failing_source(rt: &impl Abort, alloc: Global, piece: usize, calls: u64) -> Result<(), Fail> {
+    for call in 0..calls {
+        let ran = failing_read(alloc, piece, call)?;
+        expect(rt, &ran, 3, &[], "read fault\n");
+    }
+    let ran = failing_read(alloc, piece, calls)?;
+    expect(rt, &ran, 0, &hex(alloc, MID_TICK_RESULT)?, "");
+    Ok(())
+}
+
+#[test]
+fn failing_source_and_sink(rt: HostRuntime) -> Result<(), Fail> {
+    let alloc = rt.alloc();
+    failing_source(&rt, alloc, 1, 133)?;
+    failing_source(&rt, alloc, 7, 20)?;
+    failing_source(&rt, alloc, 64, 4)?;
+    let outside = Outside {
+        write: Some(0),
+        ..NO_FAULT
+    };
+    let ran = run(alloc, &["serial"], capture(alloc, MID_TICK)?, outside)?;
+    expect(&rt, &ran, 4, &[], "write fault\n");
+    let outside = Outside {
+        write: Some(1),
+        ..NO_FAULT
+    };
+    let ran = run(alloc, &["serial"], capture(alloc, MID_TICK)?, outside)?;
+    expect(&rt, &ran, 0, &hex(alloc, MID_TICK_RESULT)?, "");
+    let outside = Outside {
+        line: Some(0),
+        ..NO_FAULT
+    };
+    expect(&rt, &run(alloc, &[], Vec::new(alloc), outside)?, 2, &[], "");
+    Ok(())
+}
+
+/// A sink with room for the front of the result takes it.
+#[test]
+fn full_sink(rt: HostRuntime) -> Result<(), Fail> {
+    let alloc = rt.alloc();
+    let words = strings(alloc, &["serial"])?;
+    let mut src = MemSource::new(capture(alloc, MID_TICK)?, 64, Vec::new(alloc));
+    let mut room = [0u8; 100];
+    let mut out = StdSink::new(room.as_mut_slice());
+    let mut err = MemSink::new(alloc, Vec::new(alloc));
+    let status = chanmap(alloc, &words, &mut src, &mut out, &mut err);
+    assert_eq!(rt; status, 4);
+    let result = hex(alloc, MID_TICK_RESULT)?;
+    assert_eq!(rt; Some(room.as_slice()), result.get(..100));
+    assert_eq!(rt; err.taken(), b"write fault\n".as_slice());
+    Ok(())
+}
+
+#[test]
+fn bad_words_and_long_input(rt: HostRuntime) -> Result<(), Fail> {
+    let alloc = rt.alloc();
+    let usage = "usage: chanmap serial\n";
+    for words in [
+        [].as_slice(),
+        &["play"],
+        &["serial", "serial"],
+        &["serial "],
+    ] {
+        let ran = run(alloc, words, capture(alloc, TWO_TICKS)?, NO_FAULT)?;
+        expect(&rt, &ran, 2, &[], usage);
+    }
+    let outside = Outside {
+        piece: 65536,
+        ..NO_FAULT
+    };
+    let long = vec![in alloc; 0u8; MOST + 1]?;
+    let ran = run(alloc, &["serial"], long, outside)?;
+    expect(&rt, &ran, 7, &[], "too long\n");
+    let most = vec![in alloc; 0u8; MOST]?;
+    let ran = run(alloc, &["serial"], most, outside)?;
+    expect(&rt, &ran, 5, &[], "refused: not-yet\n");
+    Ok(())
+}
+
+/// The bytes with those from one place to another replaced.
+fn spliced(
+    alloc: Global,
+    bytes: &[u8],
+    from: usize,
+    to: usize,
+    digits: &str,
+) -> Result<Vec<u8>, Fail> {
+    let mut made = Vec::new(alloc);
+    made.extend_from_slice(bytes.get(..from).ok_or("no such place")?)?;
+    push_hex(&mut made, digits)?;
+    made.extend_from_slice(bytes.get(to..).ok_or("no such place")?)?;
+    Ok(made)
+}
+
+/// Changes of the capture of silence. Its device stands at 8, the claims at 65, and the end at 74.
+const DEVICE_CHANGES: [(usize, usize, &str); 31] = [
+    // the magic
+    (7, 8, "0b"),
+    (0, 79, ""),
+    // another first record, a second device, and an unknown tag
+    (8, 9, "54"),
+    (65, 66, "44"),
+    (65, 66, "51"),
+    // a device record that ends within a base row, and one with a byte behind it
+    (
+        9,
+        65,
+        "00000033 0000bb80 0002 0000000000000000 01 01 02 01 61 02 10 60 01 01
+            01 78 02 10 60 00000001 ff ff00 ff00 01 79 02 18 61 00000002 ff ff00 ff",
+    ),
+    (
+        9,
+        65,
+        "00000035 0000bb80 0002 0000000000000000 01 01 02 01 61 02 10 60 01 01
+            01 78 02 10 60 00000001 ff ff00 ff00 01 79 02 18 61 00000002 ff ff00 ff00 00",
+    ),
+    // the rate, the frames, the base and the hold
+    (13, 17, "0000bb81"),
+    (17, 19, "0000"),
+    (26, 27, "01"),
+    (27, 28, "41"),
+    // no output
+    (
+        9,
+        65,
+        "00000018 0000bb80 0002 0000000000000000 01 01 00 01 61 02 10 60 01 01",
+    ),
+    // an id with a space, and one id twice
+    (31, 32, "20"),
+    (52, 53, "78"),
+    // an input's channels, bits, payload type, block size and reordering
+    (32, 33, "00"),
+    (33, 34, "18"),
+    (33, 34, "11"),
+    (34, 35, "80"),
+    (35, 36, "02"),
+    (36, 37, "00"),
+    (36, 37, "02"),
+    // a routable list with no member
+    (46, 47, "00"),
+    // a base row with another unrouted cell, and with a channel and an input that aren't there
+    (47, 49, "ff01"),
+    (47, 49, "0002"),
+    (47, 49, "0100"),
+    // claims of part of a tick, of 257 ticks, and in 3 bytes
+    (70, 74, "00000003"),
+    (70, 74, "00000202"),
+    (66, 71, "00000003"),
+    // an end with a body, no end, and a byte behind the end
+    (75, 79, "00000001 00"),
+    (74, 79, ""),
+    (79, 79, "00"),
+];
+
+/// Changes of the capture with an activation. Its packet stands at 65, claims at 91 and 118, and the activation at 100.
+const RECORD_CHANGES: [(usize, usize, &str); 28] = [
+    // a packet of no input, its first byte, a marker, and another payload type
+    (70, 71, "01"),
+    (71, 72, "40"),
+    (71, 72, "a0"),
+    (71, 72, "90"),
+    (71, 72, "81"),
+    (72, 73, "e0"),
+    (72, 73, "61"),
+    // a timestamp within a tick, and one of 2^31
+    (75, 79, "00000005"),
+    (75, 79, "80000000"),
+    // no head, part of a sample, and too few and too many frames
+    (66, 91, "00000001 00"),
+    (
+        66,
+        91,
+        "00000014 00 8060 0000 00000004 00000063 1111 2222 3333 44",
+    ),
+    (66, 91, "00000011 00 8060 0000 00000004 00000063 1111 2222"),
+    (
+        66,
+        91,
+        "00000019 00 8060 0000 00000004 00000063 1111 2222 3333 4444 5555 6666",
+    ),
+    // a second packet of the tick, and one of the tick before
+    (
+        91,
+        91,
+        "50 00000015 00 8060 0001 00000004 00000063 0000 0000 0000 0000",
+    ),
+    (
+        91,
+        91,
+        "50 00000015 00 8060 0001 00000002 00000063 0000 0000 0000 0000",
+    ),
+    // no such client, no such op, and no output
+    (105, 106, "10"),
+    (106, 107, "01"),
+    (101, 118, "00000003 00 00 00"),
+    // outputs that don't ascend, and one that isn't there
+    (113, 114, "00"),
+    (108, 114, "01 01 00 0000 00"),
+    (113, 114, "02"),
+    // channels that don't ascend, and one that isn't there
+    (101, 118, "0000000b 00 00 01 00 02 00 0000 00 0000"),
+    (115, 116, "02"),
+    // an input and a channel of it that aren't there, and another unrouted cell
+    (116, 117, "01"),
+    (117, 118, "02"),
+    (116, 118, "ff01"),
+    // a byte behind the action
+    (101, 118, "0000000e 00 00 02 00 01 000000 01 01 000001 00"),
+    // claims of part of a tick
+    (123, 127, "00000002"),
+];
+
+fn refuse_all(
+    rt: &impl Abort,
+    alloc: Global,
+    records: &str,
+    changes: &[(usize, usize, &str)],
+) -> Result<(), Fail> {
+    let whole = capture(alloc, records)?;
+    for (from, to, digits) in changes {
+        let input = spliced(alloc, &whole, *from, *to, digits)?;
+        let ran = run(alloc, &["serial"], input, NO_FAULT)?;
+        expect(rt, &ran, 5, &[], "refused: not-yet\n");
+    }
+    Ok(())
+}
+
+/// A capture with so many activations of both outputs.
+fn activations(alloc: Global, count: usize) -> Result<Vec<u8>, Fail> {
+    let mut made = hex(alloc, DEVICE)?;
+    for _ in 0..count {
+        push_hex(&mut made, "41 0000000d 00 00 02 00 01 000000 01 01 000001")?;
+    }
+    push_hex(&mut made, "45 00000000")?;
+    Ok(made)
+}
+
+#[test]
+fn refusals_of_the_plain_form(rt: HostRuntime) -> Result<(), Fail> {
+    let alloc = rt.alloc();
+    refuse_all(&rt, alloc, TWO_TICKS, &DEVICE_CHANGES)?;
+    refuse_all(&rt, alloc, MID_TICK, &RECORD_CHANGES)?;
+    // two base entries, and two of each activation: 512 are the most
+    let most = run(alloc, &["serial"], activations(alloc, 255)?, NO_FAULT)?;
+    assert_eq!(rt; most.status, 0);
+    let more = run(alloc, &["serial"], activations(alloc, 256)?, NO_FAULT)?;
+    expect(&rt, &more, 5, &[], "refused: not-yet\n");
+    Ok(())
+}
