@@ -1,9 +1,10 @@
-ghost use Rattle.std.specs.Prelude.{◌<◌};
+ghost use Rattle.std.specs.Prelude.{◌≡◌, ◌<◌, IfOk};
 
 use crate::{
     Failed, MemSink, MemSource, Sink, Source, StdSink, StdSource, Unread, read_whole, write_whole,
 };
 use std::alloc::Global;
+use std::io::{self, ErrorKind, Read, Write};
 use std::process::Abort;
 use std::test::Fail;
 
@@ -115,4 +116,51 @@ fn full_writer(rt: HostRuntime) {
     assert_eq!(rt; sink.write(b"RTPL24"), Ok(4));
     assert_eq!(rt; sink.write(b""), Ok(0));
     assert_eq!(rt; write_whole(&mut sink, b"24"), Err(Failed));
+}
+
+/// A stream whose first call fails, while later ones do nothing and say that all went well.
+#[derive(Drop)]
+struct FailsOnce {
+    failed: bool,
+}
+
+impl FailsOnce {
+    /// The answer of a call, where it would else be this one.
+    fn answer(&mut self, count: usize) -> io::Result<usize>
+        ensures { IfOk result (λ n. n ≡ count) }
+    {
+        if self.failed {
+            return Ok(count);
+        }
+        self.failed = true;
+        Err(io::Error::from(ErrorKind::BrokenPipe))
+    }
+}
+
+impl Read for FailsOnce {
+    fn read(&mut self, _buf: &mut [u8]) -> io::Result<usize> {
+        self.answer(0)
+    }
+}
+
+impl Write for FailsOnce {
+    fn write(&mut self, piece: &[u8]) -> io::Result<usize> {
+        self.answer(piece.len())
+    }
+
+    fn flush(&mut self) -> io::Result<()> {
+        Ok(())
+    }
+}
+
+/// An error is answered, and the stream isn't tried again by itself.
+#[test]
+fn failing_streams(rt: HostRuntime) {
+    let mut buffer = [0u8; 4];
+    let mut source = StdSource::new(FailsOnce { failed: false });
+    assert_eq!(rt; source.read(&mut buffer), Err(Failed));
+    assert_eq!(rt; source.read(&mut buffer), Ok(0));
+    let mut sink = StdSink::new(FailsOnce { failed: false });
+    assert_eq!(rt; sink.write(b"RTP"), Err(Failed));
+    assert_eq!(rt; sink.write(b"RTP"), Ok(3));
 }
