@@ -59,6 +59,10 @@ fn reads_lists(rt: HostRuntime) -> Result<(), Fail> {
     assert_eq!(rt; words.as_slice(), [65538u32].as_slice());
     let (longs, rest) = many::<u64>(rt.alloc(), 0, &bytes).ok().ok_or("no number")?;
     assert!(rt; longs.is_empty() && rest.len() == 7);
+    let (longs, _) = many::<u64>(rt.alloc(), 1, &[0, 0, 0, 0, 0, 0, 1, 2])
+        .ok()
+        .ok_or("one number")?;
+    assert_eq!(rt; longs.as_slice(), [258u64].as_slice());
     Ok(())
 }
 
