@@ -1,5 +1,5 @@
 -- Which fault parts of a device are refused for: the first limit that they break. (This project's own.)
-use Rattle.std.specs.Prelude.{◌≡◌, ◌≢◌, ℕ, ◌<◌, ◌≤◌, List, [], length, take, All, Option, Some, None, IfSome, IfNone}
+use Rattle.std.specs.Prelude.{◌≡◌, ◌≢◌, ℕ, ◌<◌, ◌≤◌, List, length, take, All, Option, Some, None, IfSome, IfNone}
 use Rattle.std.specs.List.{AllPairs, AllWithin, HoldsAt, Any, sum_by}
 use Rattle.io_caps.specs.declared.limits.TheConstants.{MOST_INPUTS, MOST_OUTPUTS, MOST_INPUT_CHANNELS, MOST_HOLD}
 use Rattle.io_caps.specs.Port.{IsId, AreChannels, IsPayloadType, HasWholeBlocks, FitsPacket, IsRoutable}

@@ -1,4 +1,5 @@
--- The limits of one input or output. (This project's own, after IS-08.)
+-- The limits of one input or output. (This project's own, after what AMWA IS-08 v1.0 tells of an input or output and its caps:
+-- `/inputs/{id}` and `/outputs/{id}`.)
 use Rattle.std.specs.Prelude.{◌≡◌, ℕ, ◌*◌, ◌%◌, ◌<◌, ◌≤◌, ◌⊎◌, List, length, All, Option, Some, None}
 use Rattle.io_caps.specs.declared.limits.TheConstants.{MOST_ID_BYTES, MOST_CHANNELS, MOST_PAYLOAD_TYPE, MOST_PAYLOAD}
 use Rattle.io_caps.specs.Rate.{bytes_per_sample}
@@ -24,6 +25,7 @@ IsId id = (1 ≤ length id) × (length id ≤ MOST_ID_BYTES) × All IsIdByte id
 abbrev pub AreChannels : List (List ℕ) → Type 0
 AreChannels labels = (1 ≤ length labels) × (length labels ≤ MOST_CHANNELS)
 
+-- a payload type has 7 bits (RFC 3550, section 5.1)
 abbrev pub IsPayloadType : ℕ → Type 0
 IsPayloadType t = t ≤ MOST_PAYLOAD_TYPE
 

@@ -54,13 +54,12 @@ impl Model for Device {
 impl Device {
     /// The device of these parts. It is refused exactly where they break a limit, with the first fault that applies; a
     /// refusal drops the parts. No memory is taken.
-    pub fn build(alloc: Global, parts: DeviceParts) -> Result<Device, Or<DeviceFault>>
+    pub fn build(_alloc: Global, parts: DeviceParts) -> Result<Device, Or<DeviceFault>>
         ensures ok { IfOk result (λ device. device ≡ parts) }
         ensures within { OnOk result (IsDevice parts) }
         ensures fault { OnErr result (IsDevice parts → ⊥) }
         ensures first { IfErr result (λ e. IsFaultAnd e (IsFirstFault parts)) }
     {
-        let _ = alloc;
         match parts.check() {
             Ok(()) => Ok(Device { parts }),
             Err(fault) => Err(Or::Fault(fault)),
@@ -108,21 +107,21 @@ impl Device {
     }
 
     /// The input of a number that is there.
-    pub fn input(&self, i: u8) -> &Input
-        requires { i < length self.now.inputs }
-        ensures value { slice_get self.now.inputs i ≡ Some result.now }
+    pub fn input(&self, number: u8) -> &Input
+        requires { number < length self.now.inputs }
+        ensures value { slice_get self.now.inputs number ≡ Some result.now }
         ensures valid { IsDevice self.now }
     {
-        &self.parts.inputs.as_slice()[i as usize]
+        &self.parts.inputs.as_slice()[number as usize]
     }
 
     /// The output of a number that is there.
-    pub fn output(&self, o: u8) -> &Output
-        requires { o < length self.now.outputs }
-        ensures value { slice_get self.now.outputs o ≡ Some result.now }
+    pub fn output(&self, number: u8) -> &Output
+        requires { number < length self.now.outputs }
+        ensures value { slice_get self.now.outputs number ≡ Some result.now }
         ensures valid { IsDevice self.now }
     {
-        &self.parts.outputs.as_slice()[o as usize]
+        &self.parts.outputs.as_slice()[number as usize]
     }
 
     /// The inputs by their numbers.

@@ -18,28 +18,28 @@ pub use memory::{NoMemory, Or, TryCopy};
 pub use port::{Input, Output, Parent, Routable};
 pub use rate::{Rate, Width};
 
-/// Bytes that are read as text.
+/// The bytes of a name, a description or a label, which need not be UTF-8.
 pub type Text = ListOf<u8>;
 
-/// Bytes.
+/// Bytes of a packet or a record.
 pub type Bytes = ListOf<u8>;
 
-/// The labels of a row of channels.
+/// A label for each channel, in channel order.
 pub type Labels = ListOf<Text>;
 
-/// Numbers of inputs, or none.
+/// What may be routed to an output: inputs by their numbers, and `None` for unrouted.
 pub type Choices = ListOf<Option<u8>>;
 
-/// The inputs of a device.
+/// The inputs of a device, by their numbers from 0.
 pub type Inputs = ListOf<Input>;
 
-/// The outputs of a device.
+/// The outputs of a device, by their numbers from 0.
 pub type Outputs = ListOf<Output>;
 
-/// Flags.
+/// Flags, one for each input.
 pub type Flags = ListOf<bool>;
 
-/// Numbers.
+/// Numbers of claims or ticks.
 pub type Numbers = ListOf<u64>;
 
 #[cfg(test)]

@@ -208,3 +208,39 @@ fn lists(rt: HostRuntime) -> Result<(), Fail> {
     assert_eq!(rt; bytes.into_vec().len(), 2);
     Ok(())
 }
+
+/// Whether a value has a copy, and it is equal.
+fn is_copied<T: TryCopy + PartialEq>(value: T) -> Result<bool, NoMemory> {
+    Ok(value.copy()? == value)
+}
+
+#[test]
+fn numbers_copied(rt: HostRuntime) -> Result<(), Fail> {
+    assert!(rt; is_copied(255u8)?);
+    assert!(rt; is_copied(1u32 << 31)?);
+    assert!(rt; is_copied(-8_388_608i32)?);
+    assert!(rt; is_copied(1u64 << 63)?);
+    assert!(rt; is_copied(1u128 << 127)?);
+    assert!(rt; is_copied(true)?);
+    assert!(rt; is_copied(Some(7u8))?);
+    assert!(rt; matches!((7u8, false).copy()?, (7, false)));
+    Ok(())
+}
+
+#[test]
+fn parts_copied(rt: HostRuntime) -> Result<(), Fail> {
+    assert!(rt; is_copied(RATE)?);
+    assert!(rt; is_copied(Width::L24)?);
+    assert!(rt; is_copied(Parent::Receiver(9))?);
+    assert!(rt; is_copied(Slot::Target(3))?);
+    assert!(rt; is_copied(DeviceFault::DoubleId(Slot::Source(2)))?);
+    Ok(())
+}
+
+#[test]
+fn lists_joined(rt: HostRuntime) -> Result<(), Fail> {
+    let mut front = text(rt.alloc(), "ab")?;
+    front.append(text(rt.alloc(), "cd")?)?;
+    assert_eq!(rt; front.as_slice(), b"abcd".as_slice());
+    Ok(())
+}
