@@ -8,7 +8,7 @@ abbrev pub bit : Bool → ℕ → ℕ
 bit false value = 0
 bit true value = value
 
--- The fields are numbers of 7, 16, 32 and 32 bits.
+-- The fields are numbers of 7, 16, 32 and 32 bits. (RFC 3550, section 5.1)
 abbrev pub IsHead : Head → Type 0
 IsHead head = (head.payload_type < 2 ^ 7) × (head.sequence < 2 ^ 16) × (head.timestamp < 2 ^ 32) × (head.ssrc < 2 ^ 32)
 

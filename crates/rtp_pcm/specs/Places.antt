@@ -1,4 +1,5 @@
--- Where the parts of a packet lie in its bytes, and the faults of bytes that are none. (RFC 3550, section 5.1)
+-- Where the parts of a packet lie in its bytes, and the faults of bytes that are none. (RFC 3550, sections 5.1
+-- and 5.3.1)
 use Rattle.std.specs.Prelude.{◌≡◌, ◌≢◌, ◌≤◌, ◌<◌, ◌⊎◌, ℕ, ◌+◌, ◌-◌, ◌*◌, ◌/◌, ◌%◌, Bool, ◌==◌, IsTrue, if◌then◌else◌, List, length, take, drop, slice_index}
 use Rattle.byteorder.specs.Endian.{big_number}
 use Rattle.rtp_pcm.specs.declared.packet.Head.{Head}

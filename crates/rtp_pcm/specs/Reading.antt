@@ -1,4 +1,5 @@
--- The reading of bytes as a packet, as a function: what the packet layout says, for definitions that compute.
+-- The reading of bytes as a packet, as a function: what the packet layout says, for definitions that compute. (RFC 3550,
+-- sections 5.1 and 5.3.1)
 use Rattle.std.specs.Prelude.{ℕ, Bool, not, ◌&&◌, ◌||◌, ◌==◌, nat_le, if◌then◌else◌, List, length, Option, Some, None}
 use Rattle.rtp_pcm.specs.declared.packet.Head.{Head}
 use Rattle.rtp_pcm.specs.Places.{version, is_padded, is_extended, is_marked, head_in, csrc_end, behind_csrcs, extension_length, behind_extension, last_byte, payload_in}

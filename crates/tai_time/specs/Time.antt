@@ -3,7 +3,7 @@ use Rattle.std.specs.Prelude.{◌≡◌, ◌≤◌, ◌<◌, ℕ, ◌+◌, ◌*�
 use Rattle.std.specs.List.{before_first, after_first}
 use Rattle.std.specs.Str.Parse.{IsNumeral, digits_value}
 
--- Seconds and nanoseconds since the beginning of TAI.
+-- Seconds and nanoseconds since TAI 0, which is 1970-01-01 00:00:00 TAI, the epoch of PTP. (IEEE 1588-2008, section 7.2.2)
 pub record TaiTime : Type 0 where
   pub secs : ℕ
   pub nanos : ℕ

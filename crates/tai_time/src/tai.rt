@@ -23,7 +23,8 @@ const COLON: u8 = b':';
 /// The bytes of the longest text: 13 digits, a colon, 9 digits.
 const MAX_TEXT_LEN: usize = 23;
 
-/// A TAI time. The seconds are below 2^40 and the nanoseconds below 10^9.
+/// A time since TAI 0, which is 1970-01-01 00:00:00 TAI (IEEE 1588-2008, section 7.2.2). The seconds are below 2^40 and the
+/// nanoseconds below 10^9.
 #[derive(Clone, Copy, Debug, PartialEq, Eq)]
 pub struct Tai {
     pub secs: u64,
@@ -162,7 +163,7 @@ impl Tai {
         Ok(())
     }
 
-    /// The nanoseconds since the beginning of TAI.
+    /// The nanoseconds since TAI 0.
     pub(crate) fn as_nanos(self) -> u128
         ensures value { result ≡ nanos_of self }
         ensures limit { result < nanos_limit }
