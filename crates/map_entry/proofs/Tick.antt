@@ -1,26 +1,34 @@
 -- Ticks of claims: laws.
-use Rattle.std.proofs.Common.{◌≡◌, ℕ, ◌+◌, ◌-◌, ◌*◌, ◌/◌, ◌<◌, ◌≤◌, arith}
-use Rattle.std.proofs.Math.Nat.{add-mul, div-lt_iff_lt-mul, lt-div-mul-add, div-eq_of_lt}
+use Rattle.std.proofs.Common.{◌≡◌, ℕ, ◌+◌, ◌*◌, ◌/◌, ◌<◌, ◌≤◌, arith}
+use Rattle.std.specs.Int.{div_ceil}
+use Rattle.std.proofs.Math.Nat.{add-mul, div-lt_iff_lt-mul, mul-div_cancel}
+use Rattle.std.proofs.lemmas.Grind.{div_ceil_times}
 use Rattle.map_entry.specs.Tick.{claim_tick, first_tick}
 
 -- a claim drawn before so many are made lies in a tick below the first one not begun
-pub claim_below_first : (n a b : ℕ) → 0 < n → a + 1 ≤ b → a / n < (b + (n - 1)) / n
+pub claim_below_first : (n a b : ℕ) → 0 < n → a + 1 ≤ b → a / n < div_ceil b n
 claim_below_first n a b some drawn =
-    let over : b + (n - 1) < (b + (n - 1)) / n * n + n = lt-div-mul-add {a = b + (n - 1)} some in
-    (div-lt_iff_lt-mul {x = a} {y = (b + (n - 1)) / n} some).1 (omega (arith, over))
+    let over : b ≤ div_ceil b n * n = (div_ceil_times b n some).0 in
+    (div-lt_iff_lt-mul {x = a} {y = div_ceil b n} some).1 (omega (arith, over))
 
 pub claim_before_first_tick : (base n claim claims : ℕ) → 0 < n → claim < claims → claim_tick base n claim < first_tick base n claims
 claim_before_first_tick base n claim claims some drawn = omega (arith, claim_below_first n claim claims some (omega arith))
 
+-- a multiple below another one's successor
+factor_most : (n a b : ℕ) → 0 < n → a * n < b * n + n → a ≤ b
+factor_most n a b some below =
+    let less : a * n / n < b + 1 = (div-lt_iff_lt-mul {x = a * n} {y = b + 1} some).1 (omega (arith, below, add-mul b 1 n)) in
+    omega (arith, less, mul-div_cancel a some)
+
 -- the first tick not begun never falls
 pub first_tick-grows : (base n a b : ℕ) → 0 < n → a ≤ b → first_tick base n a ≤ first_tick base n b
 first_tick-grows base n a b some more =
-    let over : b + (n - 1) < (b + (n - 1)) / n * n + n = lt-div-mul-add {a = b + (n - 1)} some in
-    let below : (a + (n - 1)) / n < (b + (n - 1)) / n + 1 = (div-lt_iff_lt-mul {x = a + (n - 1)} {y = (b + (n - 1)) / n + 1} some).1 (omega (arith, over, more, add-mul ((b + (n - 1)) / n) 1 n)) in
-    omega (arith, below)
+    let low : div_ceil a n * n < a + n = (div_ceil_times a n some).1 in
+    let high : b ≤ div_ceil b n * n = (div_ceil_times b n some).0 in
+    omega (arith, factor_most n (div_ceil a n) (div_ceil b n) some (omega (arith, low, high, more)))
 
 -- nothing claimed, nothing begun
 pub first_tick-none : (base n : ℕ) → 0 < n → first_tick base n 0 ≡ base
 first_tick-none base n some =
-    let none_begun : (0 + (n - 1)) / n ≡ 0 = div-eq_of_lt (omega arith) in
-    omega (arith, none_begun)
+    let low : div_ceil 0 n * n < 0 + n = (div_ceil_times 0 n some).1 in
+    omega (arith, factor_most n (div_ceil 0 n) 0 some (omega (arith, low)))

@@ -32,7 +32,7 @@ NamesChannel inputs (From input channel) = IsSomeAnd (slice_get inputs input) (�
 abbrev pub HasCells : Output → List Cell → Type 0
 HasCells output row = length row ≡ length output.labels
 
--- a row for each output, whose cells name channels that are there
+-- a device within its limits, and a row for each output with a cell for each channel; the cells name channels that are there
 pub record IsSetup (setup : SetupParts) : Type 0 where
   pub device : IsDevice setup.device
   pub count : AllZip HasCells setup.device.outputs setup.rows

@@ -1,6 +1,7 @@
 -- Which packet a claim is. With n outputs, claim k is the packet of output k mod n at the tick k div n from the base.
 -- (This project's own.)
-use Rattle.std.specs.Prelude.{ℕ, ◌+◌, ◌-◌, ◌/◌, ◌%◌}
+use Rattle.std.specs.Prelude.{ℕ, ◌+◌, ◌/◌, ◌%◌}
+use Rattle.std.specs.Int.{div_ceil}
 
 -- the tick of a claim
 abbrev pub claim_tick : ℕ → ℕ → ℕ → ℕ
@@ -10,6 +11,6 @@ claim_tick base outputs claim = base + claim / outputs
 abbrev pub claim_output : ℕ → ℕ → ℕ
 claim_output outputs claim = claim % outputs
 
--- the first tick not begun after so many claims
+-- the first tick not begun after so many claims: these, divided by the outputs and rounded up
 abbrev pub first_tick : ℕ → ℕ → ℕ → ℕ
-first_tick base outputs claims = base + (claims + (outputs - 1)) / outputs
+first_tick base outputs claims = base + div_ceil claims outputs

@@ -57,6 +57,7 @@ impl Action {
         ensures ok { OnOk result (self.new ≡ self.old ++ change ∷ []) }
         ensures err { OnErr result (self.new ≡ self.old) }
     {
+        // The proof that the outputs still ascend looks at it.
         let _ = &change.output;
         self.changes.push(change)?;
         Ok(())

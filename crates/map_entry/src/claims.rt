@@ -3,7 +3,7 @@
 ghost use Rattle.std.specs.Prelude.{◌≡◌, ◌<◌, ◌^◌};
 ghost use Rattle.map_entry.specs.Tick.{claim_tick, claim_output, first_tick};
 
-/// The output of a claim.
+/// The output of a claim: claim k is the packet of output k mod n, with n outputs.
 pub fn claim_output(outputs: u8, claim: u64) -> u8
     requires { 0 < outputs }
     ensures value { result ≡ claim_output outputs claim }
@@ -12,7 +12,7 @@ pub fn claim_output(outputs: u8, claim: u64) -> u8
     (claim % outputs as u64) as u8
 }
 
-/// The tick of a claim.
+/// The tick of a claim: k div n ticks behind the base, for claim k with n outputs.
 pub fn claim_tick(base: u64, outputs: u8, claim: u64) -> u64
     requires some { 0 < outputs }
     requires sum { claim_tick base outputs claim < 2 ^ 64 }
@@ -21,13 +21,13 @@ pub fn claim_tick(base: u64, outputs: u8, claim: u64) -> u64
     base + claim / outputs as u64
 }
 
-/// The first tick of which no packet is claimed yet.
+/// The first tick of which no packet is claimed after so many claims: these, divided by the outputs and rounded up, behind
+/// the base.
 pub fn first_tick(base: u64, outputs: u8, claims: u64) -> u64
     requires some { 0 < outputs }
     requires claims { claims < 2 ^ 40 }
     requires sum { first_tick base outputs claims < 2 ^ 64 }
     ensures { result ≡ first_tick base outputs claims }
 {
-    let outputs = outputs as u64;
-    base + (claims + (outputs - 1)) / outputs
+    base + claims.div_ceil(outputs as u64)
 }

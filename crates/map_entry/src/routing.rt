@@ -25,12 +25,11 @@ pub fn select(entries: &Entries, output: u8, tick: u64) -> Option<&Row>
 
 /// The row with what an action changes of its output: an equal row where the action doesn't name the output.
 #[tactic(auto, using(crate::proofs::Changes::lengths))]
-pub fn apply(alloc: Global, row: &Row, action: &Action, output: u8) -> Result<Row, NoMemory>
+pub fn apply(_alloc: Global, row: &Row, action: &Action, output: u8) -> Result<Row, NoMemory>
     requires { FitsRow action.now output (length row.now) }
     ensures value { IfOk result (λ made. made ≡ applied row.now action.now output) }
     ensures long { IfOk result (λ made. length made ≡ length row.now) }
 {
-    let _ = alloc;
     let mut made = row.copy()?;
     if let Some(change) = action.change_of(output) {
         set_cells(&mut made, change.changes());

@@ -1,6 +1,6 @@
 //! A device with its base rows.
 
-ghost use Rattle.std.specs.Prelude.{◌≡◌, ◌<◌, ◌≤◌, ◌↔◌, IsTrue, IfOk, IfErr, OnOk, OnErr, Some, All, List, length, slice_get, IsSomeAnd};
+ghost use Rattle.std.specs.Prelude.{◌≡◌, ◌≤◌, ◌↔◌, IsTrue, IfOk, IfErr, OnOk, OnErr, All, length};
 ghost use Rattle.std.specs.List.{AllZip};
 ghost use Rattle.io_caps.specs.declared.limits.TheConstants.{MOST_CHANNELS, MOST_OUTPUTS};
 ghost use Rattle.map_entry.specs.Setup.{IsSetup, IsBrokenBy, HasCells, NamesChannel, setup_of};
@@ -32,13 +32,12 @@ impl Setup {
     /// The device with these base rows. It is refused by a fault exactly where they don't fit the device: `Count`, or
     /// `BaseRow` with `Input` or `Channel` (the row checks for blocks, order and routable lists aren't made yet). A refusal
     /// drops both. No memory is taken.
-    pub fn build(alloc: Global, device: Device, rows: Rows) -> Result<Setup, Or<SetupFault>>
+    pub fn build(_alloc: Global, device: Device, rows: Rows) -> Result<Setup, Or<SetupFault>>
         ensures ok { IfOk result (λ setup. setup ≡ setup_of device rows) }
         ensures within { OnOk result (IsSetup (setup_of device rows)) }
         ensures fault { OnErr result (IsSetup (setup_of device rows) → ⊥) }
         ensures named { IfErr result (λ e. IsFaultAnd e (IsBrokenBy (setup_of device rows))) }
     {
-        let _ = alloc;
         if !have_cells(device.output_slice(), rows.as_slice()) {
             return Err(Or::Fault(SetupFault::Count));
         }
@@ -46,17 +45,6 @@ impl Setup {
             Ok(()) => Ok(Setup { device, rows }),
             Err((output, fault)) => Err(Or::Fault(SetupFault::BaseRow { output, fault })),
         }
-    }
-
-    /// The base row of an output that is there.
-    pub fn row(&self, output: u8) -> &Row
-        requires { output < length self.now.device.outputs }
-        ensures value { slice_get self.now.rows output ≡ Some result.now }
-        ensures count { IsSomeAnd (slice_get self.now.device.outputs output) (λ o. HasCells o result.now) }
-        ensures cells { All (NamesChannel self.now.device.inputs) result.now }
-        ensures valid { IsSetup self.now }
-    {
-        &self.rows.as_slice()[output as usize]
     }
 }
 

@@ -150,6 +150,18 @@ fn setups(rt: HostRuntime) -> Result<(), Fail> {
         fault(alloc, &[NONE, THIRD], &[NONE, NONE, OTHER])?,
         Some(bad)
     );
+    // the lowest output, and its lowest channel with the first of the checks that fail
+    for (x, y, output, fault_of) in [
+        ([OTHER, OTHER], [OTHER, NONE, NONE], 0, RowFault::Input(0)),
+        ([NONE, NONE], [THIRD, OTHER, OTHER], 1, RowFault::Input(1)),
+        ([NONE, NONE], [NONE, THIRD, THIRD], 1, RowFault::Channel(1)),
+    ] {
+        let bad = SetupFault::BaseRow {
+            output,
+            fault: fault_of,
+        };
+        assert_eq!(rt; fault(alloc, &x, &y)?, Some(bad));
+    }
     Ok(())
 }
 
@@ -240,4 +252,24 @@ fn claims(rt: HostRuntime) {
     }
     assert_eq!(rt; claim_tick(7, 3, 5), 8);
     assert_eq!(rt; claim_output(3, 5), 2);
+}
+
+/// Whether a value has a copy, and it is equal.
+fn is_copied<T: TryCopy + PartialEq>(value: T) -> Result<bool, NoMemory> {
+    Ok(value.copy()? == value)
+}
+
+#[test]
+fn parts_copied(rt: HostRuntime) -> Result<(), Fail> {
+    assert!(rt; is_copied(RIGHT)?);
+    assert!(rt;
+        is_copied(Change {
+            channel: 1,
+            cell: LEFT,
+        })?
+    );
+    let fault = RowFault::NotRoutable(2);
+    assert!(rt; is_copied(fault)?);
+    assert!(rt; is_copied(SetupFault::BaseRow { output: 1, fault })?);
+    Ok(())
 }

@@ -1,4 +1,4 @@
-use Rattle.std.proofs.Common.{ℕ, ◌≤◌, ◌<◌, length, get_or}
+use Rattle.std.proofs.Common.{◌<◌}
 use Rattle.std.specs.List.{AllWithin, AllAdjacentBelow}
 use Rattle.map_entry.specs.Action.{IsOutputChange}
 use Rattle.map_entry.proofs.action.are_in_order.Given as goal
