@@ -18,7 +18,7 @@ use Rattle.capture_file.specs.declared.requests.When.TheVariants.{Now}
 use Rattle.capture_file.specs.Device.{cell_text}
 use Rattle.capture_file.specs.DeviceReading.{cell_at}
 use Rattle.capture_file.specs.Records.{change_text, output_change_text, action_text, request_text, item_text, end_text, FitsCell, FitsChange}
-use Rattle.capture_file.specs.RecordReading.{channels_rise, is_ordered, tested, change_at, output_change_at, action_at, request_at, packet_of, ask_at, work_at, step_of, step_at, with_step, items_at}
+use Rattle.capture_file.specs.RecordReading.{channels_rise, is_ordered, tested, change_at, output_change_at, action_at, request_at, packet_item, ask_at, work_at, step_of, step_at, with_step, items_at}
 use Rattle.capture_file.proofs.DeviceLaws.{Exact-known, cell_exact}
 use Rattle.capture_file.proofs.Order.{ordered_channels, channels_ordered, ordered_action, action_ordered}
 
@@ -118,18 +118,18 @@ body_of item = step_body (Some item)
 abbrev IsOf : ℕ → Item → Type 0
 IsOf tag item = (step_tag (Some item) ≡ tag) × GoodStep (Some item)
 
-packet_takes : (body : List ℕ) (x : Item) → IsBytes body → packet_of body ≡ Some x → (body ≡ body_of x) × Always x × IsOf 80 x
-unfolding packet_of
+packet_takes : (body : List ℕ) (x : Item) → IsBytes body → packet_item body ≡ Some x → (body ≡ body_of x) × Always x × IsOf 80 x
+unfolding packet_item
 packet_takes [] x fits e = absurd cc
 packet_takes (b ∷ body) x fits e = subst (λ (y : Item). (b ∷ body ≡ body_of y) × Always y × IsOf 80 y) (some_is (Packet b body) x e) (refl, tt, (refl, fits 0))
 
-packet_again : (x : Item) → Always x → IsOf 80 x → packet_of (body_of x) ≡ Some x
-unfolding packet_of
+packet_again : (x : Item) → Always x → IsOf 80 x → packet_item (body_of x) ≡ Some x
+unfolding packet_item
 packet_again (Packet input bytes) t good = refl
 packet_again (Ask client request) t good = absurd (omega (arith, good.0))
 packet_again (Work claims) t good = absurd (omega (arith, good.0))
 
-packet_exact : ExactWhole packet_of body_of Always (IsOf 80)
+packet_exact : ExactWhole packet_item body_of Always (IsOf 80)
 packet_exact = record { takes = packet_takes; again = packet_again }
 
 is_work : (x : Item) → Always x → IsOf 84 x → (claims : ℕ) × (Work claims ≡ x) × (claims < 256 ^ 4)
@@ -221,7 +221,7 @@ step_of_exact : (t : ℕ) → ExactWhole (step_of t) step_body (λ x. step_tag x
 unfolding step_of
 step_of_exact t =
     tag_choice_whole t 69 _ _ step_body (λ x. step_tag x ≡ t) GoodStep (λ e. end_exact t e) (λ not_end.
-    tag_choice_whole t 80 _ _ step_body (λ x. step_tag x ≡ t) GoodStep (λ e. item_whole 80 t packet_of e (λ k. omega arith) packet_exact) (λ not_packet.
+    tag_choice_whole t 80 _ _ step_body (λ x. step_tag x ≡ t) GoodStep (λ e. item_whole 80 t packet_item e (λ k. omega arith) packet_exact) (λ not_packet.
     tag_choice_whole t 65 _ _ step_body (λ x. step_tag x ≡ t) GoodStep (λ e. item_whole 65 t (whole_of ask_at) e (λ k. omega arith) ask_exact) (λ not_ask.
     tag_choice_whole t 84 _ _ step_body (λ x. step_tag x ≡ t) GoodStep (λ e. item_whole 84 t (whole_of work_at) e (λ k. omega arith) work_exact) (λ not_work.
     none_whole step_body _ GoodStep (λ x k good. no_other x t k not_end not_packet not_ask not_work)))))

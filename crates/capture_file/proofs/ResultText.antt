@@ -50,7 +50,7 @@ request_short : (r : Request) → FitsRequest r → length (request_text r) < 20
 request_short (Activate Now action) fit = omega (arith, action_short action fit.1, fit.0)
 
 pub call_short : (c : JournalCall) → FitsCall c → length (call_body c) < 2 ^ 32
-call_short c fit = omega (arith, request_short c.request fit)
+call_short c fit = omega (arith, request_short c.request fit.1)
 
 -- ---- what stands at each number of claims
 

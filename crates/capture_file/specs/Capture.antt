@@ -36,6 +36,10 @@ pub record IsCapture (c : CaptureParts) : Type 0 where
   pub few : c.ticks ≤ MOST_TICKS
   pub there : All (IsItemThere (length c.setup.device.inputs)) c.items
 
+-- the first bytes of a capture
+abbrev pub capture_magic : List ℕ
+capture_magic = codes "CHMCAP1\n"
+
 -- the magic, the device's record, the other records in order, and the last record
 abbrev pub capture_text : CaptureParts → List ℕ
-capture_text c = codes "CHMCAP1\n" ++ (record_text DEVICE (device_text (c.setup.device, c.setup.rows)) ++ (flat_map item_text c.items ++ end_text))
+capture_text c = capture_magic ++ (record_text DEVICE (device_text (c.setup.device, c.setup.rows)) ++ (flat_map item_text c.items ++ end_text))

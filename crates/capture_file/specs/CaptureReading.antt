@@ -1,22 +1,18 @@
--- How a capture is read: all its records, and then whether they have the plain form.
-use Rattle.std.specs.Prelude.{◌≡◌, ℕ, ◌+◌, ◌*◌, ◌≤◌, true, List, length, map, All, Option, Some, None, codes, ◌==◌, if◌then◌else◌}
+-- How a capture is read: all its records, and then whether they have the plain form. (This project's own.)
+use Rattle.std.specs.Prelude.{◌≡◌, ℕ, ◌+◌, ◌*◌, ◌≤◌, List, length, map, All, Option, Some, None, ◌==◌, if◌then◌else◌}
 use Rattle.std.specs.List.{sum_by}
-use Rattle.io_caps.specs.declared.rate.Width.TheVariants.{L16}
-use Rattle.io_caps.specs.declared.port.Input.{Input}
-use Rattle.io_caps.specs.declared.port.Output.{Output}
-use Rattle.io_caps.specs.declared.port.Routable.TheVariants.{All as Anything}
 use Rattle.io_caps.specs.declared.device.DeviceParts.{DeviceParts}
 use Rattle.map_entry.specs.declared.cell.Cell.{Cell}
 use Rattle.map_entry.specs.Setup.{SetupParts, IsSetup, setup_of}
 use Rattle.exact_text.specs.Readings.{◌>>=◌, literal_at, record_at, whole_of}
 use Rattle.capture_file.specs.declared.tags.TheConstants.{DEVICE}
-use Rattle.capture_file.specs.declared.limits.TheConstants.{MOST_TICKS, MOST_ENTRIES}
+use Rattle.capture_file.specs.declared.limits.TheConstants.{HEAD_BYTES, MOST_TICKS, MOST_ENTRIES}
 use Rattle.capture_file.specs.declared.records.Item.{Item}
 use Rattle.capture_file.specs.declared.records.Item.TheVariants.{Packet, Ask, Work}
-use Rattle.capture_file.specs.Capture.{CaptureParts, claims_of, IsItemThere}
+use Rattle.capture_file.specs.Capture.{CaptureParts, capture_magic, claims_of, IsItemThere}
 use Rattle.capture_file.specs.DeviceReading.{setup_at}
 use Rattle.capture_file.specs.Packets.{timestamp_of, packets_of, AreRising}
-use Rattle.capture_file.specs.Plain.{IsPlainItem, entries_of_item}
+use Rattle.capture_file.specs.Plain.{HasPlainStream, TakesAnything, IsPlainItem, entries_of_item}
 use Rattle.capture_file.specs.RecordReading.{items_at}
 
 abbrev pub capture_of : SetupParts → List Item → ℕ → CaptureParts
@@ -35,20 +31,13 @@ base_of tag body = if tag == DEVICE then whole_of setup_at body else None
 
 unfoldable pub raw_at : List ℕ → Option ((Base × List Item) × List ℕ)
 raw_at bytes = do
-  start ← literal_at (codes "CHMCAP1\n") bytes
+  start ← literal_at capture_magic bytes
   r ← record_at start
   base ← base_of r.0.0 r.0.1
   items ← items_at (length r.1) r.1
   Some ((base, items.0), items.1)
 
 -- ---- what is tested then
-
--- 16 bits, block size 1, reordering
-abbrev pub HasPlainStream : Input → Type 0
-HasPlainStream i = (i.width ≡ L16) × (i.block_size ≡ 1) × (i.reordering ≡ true)
-
-abbrev pub TakesAnything : Output → Type 0
-TakesAnything o = o.routable ≡ Anything
 
 -- base 0, and the inputs and outputs of the plain form
 abbrev pub IsPlainDevice : DeviceParts → Type 0
@@ -59,7 +48,7 @@ IsPlainSetup s = IsPlainDevice s.device × IsSetup s
 
 -- a packet has a fixed head
 abbrev pub HasHead : Item → Type 0
-HasHead (Packet input bytes) = 12 ≤ length bytes
+HasHead (Packet input bytes) = HEAD_BYTES ≤ length bytes
 HasHead (Ask client request) = Unit {0}
 HasHead (Work claims) = Unit {0}
 

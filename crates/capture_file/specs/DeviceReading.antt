@@ -1,4 +1,4 @@
--- How the body of a plain device record is read.
+-- How the body of a plain device record is read. (This project's own.)
 use Rattle.std.specs.Prelude.{ℕ, Bool, true, false, List, [], map, Option, Some, None, ◌==◌, if◌then◌else◌}
 use Rattle.io_caps.specs.declared.rate.Width.{Width}
 use Rattle.io_caps.specs.declared.rate.Width.TheVariants.{L16, L24}

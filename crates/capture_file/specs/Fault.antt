@@ -1,4 +1,4 @@
--- A call that failed for another reason than want of memory.
+-- A call that failed for another reason than want of memory. (This project's own.)
 use Rattle.std.specs.Prelude.{Result, Ok, Err}
 use Rattle.io_caps.specs.declared.memory.Or.{Or}
 use Rattle.io_caps.specs.declared.memory.Or.TheVariants.{Fault, NoMemory}

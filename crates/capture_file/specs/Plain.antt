@@ -20,12 +20,18 @@ use Rattle.capture_file.specs.Packets.{IsAlignedPacket, AreRising}
 use Rattle.capture_file.specs.Records.{FitsItem}
 
 -- 16 bits, block size 1, reordering
-abbrev pub IsPlainInput : Input → Type 0
-IsPlainInput i = IsNumberedInput i × ((i.width ≡ L16) × (i.block_size ≡ 1) × (i.reordering ≡ true))
+abbrev pub HasPlainStream : Input → Type 0
+HasPlainStream i = (i.width ≡ L16) × (i.block_size ≡ 1) × (i.reordering ≡ true)
 
 -- any input may be routed to it
+abbrev pub TakesAnything : Output → Type 0
+TakesAnything o = o.routable ≡ Anything
+
+abbrev pub IsPlainInput : Input → Type 0
+IsPlainInput i = IsNumberedInput i × HasPlainStream i
+
 abbrev pub IsPlainOutput : Output → Type 0
-IsPlainOutput o = IsNumberedOutput o × ((o.routable ≡ Anything) × (o.ssrc < 2 ^ 32))
+IsPlainOutput o = IsNumberedOutput o × (TakesAnything o × (o.ssrc < 2 ^ 32))
 
 -- the channel and the cell's input and channel are there
 abbrev pub IsChangeThere : List Input → Output → Change → Type 0
@@ -51,7 +57,7 @@ entries_of_item (Ask client (Activate when action)) = length action
 entries_of_item (Work claims) = 0
 
 -- A capture of the plain form: a device that a plain device record spells, with base 0; packets that fill one tick each, at
--- rising timestamps; activations at once that name what is there; and at most 512 map entries, one for each output and one for
+-- rising timestamps; activations at once that name an output at least, and only what is there; and at most 512 map entries, one for each output and one for
 -- each output that an activation names.
 pub record IsPlain (c : CaptureParts) : Type 0 where
   pub valid : IsCapture c

@@ -1,4 +1,4 @@
--- How the records of a capture behind its device are read.
+-- How the records of a capture behind its device are read. (This project's own.)
 use Rattle.std.specs.Prelude.{ℕ, zero, suc, ◌+◌, nat_lt, Bool, true, ◌&&◌, not, List, [], ◌∷◌, map, Option, Some, None, ◌==◌, if◌then◌else◌}
 use Rattle.std.specs.List.{list_all}
 use Rattle.map_entry.specs.Action.{OutputChangeParts, output_change}
@@ -63,8 +63,8 @@ request_at bytes = do
 
 -- ---- bodies
 
-unfoldable pub packet_of : List ℕ → Option Item
-packet_of body = byte_at body >>= λ input. Some (Packet input.0 input.1)
+unfoldable pub packet_item : List ℕ → Option Item
+packet_item body = byte_at body >>= λ input. Some (Packet input.0 input.1)
 
 unfoldable pub ask_at : List ℕ → Option (Item × List ℕ)
 ask_at bytes = do
@@ -79,7 +79,7 @@ work_at bytes = number_at 4 bytes >>= λ claims. Some (Work claims.0, claims.1)
 unfoldable pub step_of : ℕ → List ℕ → Option (Option Item)
 step_of tag body =
     if tag == END then (nothing_at body >>= λ end. Some None)
-    else (if tag == PACKET then (packet_of body >>= λ item. Some (Some item))
+    else (if tag == PACKET then (packet_item body >>= λ item. Some (Some item))
     else (if tag == ASK then (whole_of ask_at body >>= λ item. Some (Some item))
     else (if tag == WORK then (whole_of work_at body >>= λ item. Some (Some item))
     else None)))

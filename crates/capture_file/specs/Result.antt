@@ -1,9 +1,10 @@
 -- How a history is spelled as a result. (This project's own.)
-use Rattle.std.specs.Prelude.{All, ℕ, ◌+◌, ◌<◌, ◌^◌, ◌==◌, List, [], ◌∷◌, ◌++◌, length, map, codes, slice_get}
-use Rattle.std.specs.List.{filter, flat_map, range_with_len}
+use Rattle.std.specs.Prelude.{All, ◌≡◌, ℕ, ◌+◌, ◌<◌, ◌≤◌, ◌^◌, ◌⊎◌, ◌==◌, List, [], ◌∷◌, ◌++◌, length, map, codes, slice_get}
+use Rattle.std.specs.List.{AllPairs, filter, flat_map, range_with_len}
 use Rattle.std.specs.Option.{option_map_or}
 use Rattle.byteorder.specs.Endian.{big_bytes}
 use Rattle.exact_text.specs.Spellings.{record_text}
+use Rattle.io_caps.specs.declared.device.DeviceParts.{DeviceParts}
 use Rattle.capture_file.specs.declared.history.ClaimItem.{ClaimItem}
 use Rattle.capture_file.specs.declared.history.JournalCall.{JournalCall}
 use Rattle.capture_file.specs.declared.history.ReplyItem.{ReplyItem}
@@ -12,6 +13,7 @@ use Rattle.capture_file.specs.declared.history.Said.TheVariants.{Plain}
 use Rattle.capture_file.specs.declared.history.History.{History}
 use Rattle.capture_file.specs.declared.requests.Reply.{Reply}
 use Rattle.capture_file.specs.declared.requests.Reply.TheVariants.{Activated}
+use Rattle.capture_file.specs.declared.limits.TheConstants.{MOST_CLIENTS}
 use Rattle.capture_file.specs.declared.tags.TheConstants.{CLAIM, CALL, REPLY, PLAIN_FORM, ACTIVATED}
 use Rattle.capture_file.specs.Device.{flag_byte}
 use Rattle.capture_file.specs.Records.{request_text, end_text, FitsRequest}
@@ -50,24 +52,53 @@ reply_text r = record_text REPLY (reply_body r)
 
 -- The calls that were accepted at a number of claims, the replies that were given there, and the claim of that number, where
 -- there is one.
-unfoldable pub text_at : History → ℕ → List ℕ
-text_at h claims =
+unfoldable pub records_at : History → ℕ → List ℕ
+records_at h claims =
     flat_map call_text (filter (λ c. c.at == claims) h.journal)
     ++ (flat_map reply_text (filter (λ r. r.stamp.claims == claims) h.replies) ++ option_map_or claim_text (slice_get h.claims claims) [])
 
+-- the first bytes of a result
+abbrev pub result_magic : List ℕ
+result_magic = codes "CHMRES1\n"
+
 -- the magic, what stands at each number of claims from 0 to the last, and the last record
 unfoldable pub result_text : History → List ℕ
-result_text h = codes "CHMRES1\n" ++ (flat_map (text_at h) (range_with_len 0 (length h.claims + 1)) ++ end_text)
+result_text h = result_magic ++ (flat_map (records_at h) (range_with_len 0 (length h.claims + 1)) ++ end_text)
 
--- ---- what the fields can hold
+-- ---- what can be written
 
-abbrev pub FitsClaim : ClaimItem → Type 0
-FitsClaim c = length c.found + length c.packet + 8 < 2 ^ 32
+-- a record can hold the claim
+abbrev pub IsShortClaim : ClaimItem → Type 0
+IsShortClaim c = length c.found + length c.packet + 8 < 2 ^ 32
+
+-- a claim of this device has a flag for each input
+abbrev pub FitsClaim : DeviceParts → ClaimItem → Type 0
+FitsClaim d c = (length c.found ≡ length d.inputs) × IsShortClaim c
 
 abbrev pub FitsCall : JournalCall → Type 0
-FitsCall c = FitsRequest c.request
+FitsCall c = (c.client < MOST_CLIENTS) × FitsRequest c.request
 
--- each record of a history fits the fields of a result
-pub record FitsHistory (h : History) : Type 0 where
-  pub claims : All FitsClaim h.claims
+abbrev pub FitsReply : ReplyItem → Type 0
+FitsReply r = r.client < MOST_CLIENTS
+
+-- the order of replies in a result: by claims, then by calls, then by client
+abbrev pub IsNoLater : ReplyItem → ReplyItem → Type 0
+IsNoLater a b =
+    (a.stamp.claims < b.stamp.claims)
+    ⊎ ((a.stamp.claims ≡ b.stamp.claims) × ((a.stamp.calls < b.stamp.calls) ⊎ ((a.stamp.calls ≡ b.stamp.calls) × (a.client ≤ b.client))))
+
+-- A whole history: its claims are numbered from 0, its calls and replies stand in the order of a result, and none is past
+-- the last claim.
+pub record IsWhole (h : History) : Type 0 where
+  pub numbered : map (λ c. c.k) h.claims ≡ range_with_len 0 (length h.claims)
+  pub calls : AllPairs (λ a b. a.at ≤ b.at) h.journal
+  pub calls_within : All (λ c. c.at ≤ length h.claims) h.journal
+  pub replies : AllPairs IsNoLater h.replies
+  pub replies_within : All (λ r. r.stamp.claims ≤ length h.claims) h.replies
+
+-- a whole history of this device, each record of which fits the fields of a result
+pub record FitsHistory (d : DeviceParts) (h : History) : Type 0 where
+  pub whole : IsWhole h
+  pub claims : All (FitsClaim d) h.claims
   pub journal : All FitsCall h.journal
+  pub replies : All FitsReply h.replies

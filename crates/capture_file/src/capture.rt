@@ -78,14 +78,14 @@ fn raw(alloc: Global, bytes: &[u8]) -> Result<(((DeviceParts, Rows), Items), &[u
 /// The capture of the plain form at the front of bytes, and the place behind its last record. Its device record is a
 /// plain one of base 0, with inputs of 16 bits, block size 1 and reordering, and outputs to which anything may be
 /// routed; packets have a plain head of 12 bytes and fill one tick each, at rising timestamps that begin a tick and are
-/// below 2^31; requests are activations at once, of clients below 16, that name what is there; the claims are those of
+/// below 2^31; requests are activations at once, of clients below 16, that name an output and only what is there; the claims are those of
 /// whole ticks, 256 at most; there are at most 512 map entries, one for each output and one for each output that an
-/// activation names. Other bytes are refused, and taken for no capture. (This project's own.)
+/// activation names. Other bytes are refused by the fault `NotYet`; want of memory comes for itself alone. (This project's own.)
 pub fn read_capture(alloc: Global, bytes: &[u8]) -> Result<(Capture, usize), Or<CaptureFault>>
     // What is read is spelled so.
     ensures found { IfOk result (λ x. IsPlain x.0 × (x.1 ≤ length bytes.now) × (bytes.now ≡ capture_text x.0 ++ drop x.1 bytes.now)) }
-    // Nothing else may be read there.
-    ensures only { IfOk result (λ x. (c : CaptureParts) (rest : List ℕ) → IsPlain c → bytes.now ≡ capture_text c ++ rest → rest ≡ drop x.1 bytes.now) }
+    // Nothing else may be read there: no two captures have the same bytes.
+    ensures only { IfOk result (λ x. (c : CaptureParts) (rest : List ℕ) → IsPlain c → bytes.now ≡ capture_text c ++ rest → (c ≡ x.0) × (rest ≡ drop x.1 bytes.now)) }
     // What is spelled so is read, unless memory runs out.
     ensures none { IsFault result → (c : CaptureParts) (rest : List ℕ) → IsPlain c → bytes.now ≡ capture_text c ++ rest → ⊥ }
 {

@@ -1,5 +1,8 @@
 //! A history: the packets that were claimed, the calls that were accepted, and the replies.
 
+ghost use Rattle.std.specs.Prelude.{◌≡◌};
+ghost use Rattle.capture_file.specs.Calls.{journal_call};
+
 use crate::{Reply, Request, Stamp};
 use io_caps::{Bytes, Flags, ListOf, NoMemory, TryCopy};
 
@@ -8,11 +11,28 @@ use io_caps::{Bytes, Flags, ListOf, NoMemory, TryCopy};
 pub struct JournalCall {
     /// The number of claims at which it was accepted.
     pub at: u64,
+    /// The number of the client that asked.
     pub client: u8,
+    /// The number of the activation, counted from 1.
     pub id: u64,
     /// The tick from which it counts.
     pub tick: u64,
     pub request: Request,
+}
+
+impl JournalCall {
+    /// The call of these parts, which takes no memory.
+    pub fn new(at: u64, client: u8, id: u64, tick: u64, request: Request) -> JournalCall
+        ensures { result ≡ journal_call at client id tick request }
+    {
+        JournalCall {
+            at,
+            client,
+            id,
+            tick,
+            request,
+        }
+    }
 }
 
 /// The accepted calls, in order.
@@ -25,6 +45,7 @@ pub struct ClaimItem {
     pub k: u64,
     /// Per input, whether the claim's row names it and its block was found.
     pub found: Flags,
+    /// The bytes of its RTP packet (RFC 3550, section 5.1).
     pub packet: Bytes,
 }
 
@@ -82,7 +103,7 @@ impl TryCopy for ClaimItem {
 impl TryCopy for Said {
     fn copy(&self) -> Result<Said, NoMemory> {
         match self {
-            Said::Plain(reply) => Ok(Said::Plain(*reply)),
+            Said::Plain(reply) => Ok(Said::Plain(reply.copy()?)),
         }
     }
 }
@@ -91,7 +112,7 @@ impl TryCopy for ReplyItem {
     fn copy(&self) -> Result<ReplyItem, NoMemory> {
         Ok(ReplyItem {
             client: self.client,
-            stamp: self.stamp,
+            stamp: self.stamp.copy()?,
             said: self.said.copy()?,
         })
     }

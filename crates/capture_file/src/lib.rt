@@ -10,14 +10,12 @@ mod history;
 mod limits;
 mod plain;
 mod reading;
-#[cfg(test)]
-mod reading_tests;
 mod records;
 mod requests;
 mod result;
-#[cfg(test)]
-mod result_tests;
 mod tags;
+#[cfg(test)]
+mod tests;
 
 pub use capture::{Capture, read_capture};
 pub use fault::{CaptureFault, CaptureKind};

@@ -3,23 +3,15 @@
 ghost use Rattle.std.specs.Prelude.{◌≡◌, ◌<◌, ◌≤◌, ◌↔◌, IsTrue, length};
 ghost use Rattle.io_caps.specs.declared.limits.TheConstants.{MOST_CHANNELS};
 ghost use Rattle.capture_file.specs.Capture.{IsItemThere};
-ghost use Rattle.capture_file.specs.CaptureReading.{HasPlainStream, TakesAnything, IsPlainDevice};
+ghost use Rattle.capture_file.specs.CaptureReading.{IsPlainDevice};
 ghost use Rattle.capture_file.specs.Packets.{IsAlignedPacket};
-ghost use Rattle.capture_file.specs.Plain.{IsChangeThere, IsOutputChangeThere, IsPlainRequest, IsPlainItem};
+ghost use Rattle.capture_file.specs.Plain.{HasPlainStream, TakesAnything, IsChangeThere, IsOutputChangeThere, IsPlainRequest, IsPlainItem};
 
+use crate::limits::{HEAD_BYTES, PLAIN_VERSION, TIMESTAMP_LIMIT};
 use crate::{Item, MOST_CLIENTS, Request};
 use byteorder::{BigEndian, ByteOrder};
 use io_caps::{Device, DeviceParts, Input, Output, Rate, Routable, Width};
 use map_entry::{Change, OutputChange};
-
-/// The length of a fixed head (RFC 3550, section 5.1).
-const HEAD_BYTES: usize = 12;
-
-/// The first byte of a fixed head with no bit but the version's (RFC 3550, section 5.1).
-const PLAIN_VERSION: u8 = 0x80;
-
-/// Plain timestamps are below this, so that none wraps.
-const TIMESTAMP_LIMIT: u32 = 1 << 31;
 
 /// Whether its samples have 16 bits, and its channels are routed one by one in any order.
 fn has_plain_stream(input: &Input) -> bool

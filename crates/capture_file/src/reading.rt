@@ -2,7 +2,7 @@
 
 ghost use Rattle.std.specs.Prelude.{◌≡◌};
 ghost use Rattle.exact_text.specs.Readings.{Gives, whole_of};
-ghost use Rattle.capture_file.specs.RecordReading.{change_at, output_change_at, action_at, request_at, packet_of, ask_at, work_at, step_of, step_at, items_at};
+ghost use Rattle.capture_file.specs.RecordReading.{change_at, output_change_at, action_at, request_at, packet_item, ask_at, work_at, step_of, step_at, items_at};
 
 use crate::fields::{Field, many};
 use crate::tags::{ACTIVATE_NOW, ASK, END, PACKET, WORK};
@@ -60,9 +60,9 @@ fn request(alloc: Global, bytes: &[u8]) -> Result<(Request, &[u8]), Misread>
     Ok((Request::Activate { when, action }, rest))
 }
 
-#[tactic(auto, unfolding(crate::specs::RecordReading::packet_of))]
+#[tactic(auto, unfolding(crate::specs::RecordReading::packet_item))]
 fn packet(alloc: Global, body: &[u8]) -> Result<Item, Misread>
-    ensures { Gives (λ x. x) result (packet_of body.now) }
+    ensures { Gives (λ x. x) result (packet_item body.now) }
 {
     let (input, rest) = byte(body)?;
     let bytes = Bytes::from_vec(Vec::from_slice(alloc, rest)?);

@@ -43,7 +43,7 @@ impl TryCopy for Request {
         match self {
             Request::Activate { when, action } => {
                 Ok(Request::Activate {
-                    when: *when,
+                    when: when.copy()?,
                     action: action.copy()?,
                 })
             }

@@ -6,7 +6,7 @@ ghost use Rattle.std.specs.Option.{option_map_or};
 ghost use Rattle.exact_text.specs.Spellings.{Grows};
 ghost use Rattle.capture_file.specs.Device.{cell_text, flag_byte};
 ghost use Rattle.capture_file.specs.Records.{action_text, change_text, output_change_text, request_text, FitsOutputChange, FitsAction, FitsRequest};
-ghost use Rattle.capture_file.specs.Result.{call_body, call_text, claim_text, plain_reply_text, reply_body, reply_text, result_text, said_text, text_at, FitsCall, FitsClaim, FitsHistory};
+ghost use Rattle.capture_file.specs.Result.{call_body, call_text, claim_text, plain_reply_text, reply_body, reply_text, result_text, said_text, records_at, FitsCall, FitsHistory, IsShortClaim};
 
 use crate::{ClaimItem, History, JournalCall, Reply, ReplyItem, Request, Said, When, tags};
 use exact_text::{push_record, push32, push64};
@@ -31,7 +31,7 @@ fn push_flags(out: &mut Vec<u8>, flags: &[bool]) -> Result<(), NoMemory>
 /// Writes a claim's record, whose body is as long as its parts.
 #[tactic(auto, using(exact_text::proofs::Growth::growth), unfolding(crate::specs::Result::claim_text))]
 fn push_claim(out: &mut Vec<u8>, claim: &ClaimItem) -> Result<(), NoMemory>
-    requires { FitsClaim claim.now }
+    requires { IsShortClaim claim.now }
     ensures ok { OnOk result (out.new.items ≡ out.old.items ++ claim_text claim.now) }
     ensures grows { Grows out.old.items out.new.items }
 {
@@ -258,7 +258,7 @@ fn push_replies_at(
 /// Writes the claim of a number, where there is one.
 #[tactic(auto, using(exact_text::proofs::Growth::growth))]
 fn push_claim_at(out: &mut Vec<u8>, claims: &[ClaimItem], at: usize) -> Result<(), NoMemory>
-    requires { All FitsClaim claims.now }
+    requires { All IsShortClaim claims.now }
     ensures ok { OnOk result (out.new.items ≡ out.old.items ++ option_map_or claim_text (slice_get claims.now at) []) }
     ensures grows { Grows out.old.items out.new.items }
 {
@@ -269,15 +269,16 @@ fn push_claim_at(out: &mut Vec<u8>, claims: &[ClaimItem], at: usize) -> Result<(
 }
 
 /// Writes what stands at a number of claims: the calls, the replies, and the claim of that number.
-#[tactic(auto, using(exact_text::proofs::Growth::growth), unfolding(crate::specs::Result::text_at))]
+#[tactic(auto, using(exact_text::proofs::Growth::growth), unfolding(crate::specs::Result::records_at))]
 fn push_at(
     alloc: Global,
     out: &mut Vec<u8>,
     history: &History,
     claims: usize,
 ) -> Result<(), NoMemory>
-    requires { FitsHistory history.now }
-    ensures ok { OnOk result (out.new.items ≡ out.old.items ++ text_at history.now claims) }
+    requires claims { All IsShortClaim history.now.claims }
+    requires journal { All FitsCall history.now.journal }
+    ensures ok { OnOk result (out.new.items ≡ out.old.items ++ records_at history.now claims) }
     ensures grows { Grows out.old.items out.new.items }
 {
     push_calls_at(alloc, out, history.journal.as_slice(), claims as u64)?;
@@ -286,8 +287,8 @@ fn push_at(
     Ok(())
 }
 
-/// Writes a history as a result behind what is there. Neither the device nor the allocator decides anything of the text:
-/// replies of other kinds will need them. Want of memory leaves what was there, and maybe more behind it.
+/// Writes a whole history of this device as a result behind what is there. Want of memory leaves what was there, and maybe
+/// more behind it.
 #[tactic(auto, using(exact_text::proofs::Growth::growth, crate::proofs::ResultText::more_claims), unfolding(crate::specs::Result::result_text))]
 pub fn write_result(
     alloc: Global,
@@ -295,7 +296,7 @@ pub fn write_result(
     history: &History,
     out: &mut Vec<u8>,
 ) -> Result<(), NoMemory>
-    requires { FitsHistory history.now }
+    requires { FitsHistory device.now history.now }
     ensures ok { OnOk result (out.new.items ≡ out.old.items ++ result_text history.now) }
     ensures grows { Grows out.old.items out.new.items }
 {

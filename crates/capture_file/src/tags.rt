@@ -30,9 +30,10 @@ pub const REPLY: u8 = 0x52;
 /// `E`: the last record of a capture or a result.
 pub const END: u8 = 0x45;
 
-/// The bits of a sample of L16, and of L24.
+/// The bits of a sample of L16 (RFC 3551, section 4.5.11).
 pub const BITS_16: u8 = 16;
 
+/// The bits of a sample of L24 (RFC 3190, section 4).
 pub const BITS_24: u8 = 24;
 
 /// A routable list that allows everything stands as this number of members.

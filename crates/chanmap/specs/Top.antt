@@ -21,10 +21,11 @@ IsSerial (word ∷ other ∷ words) = ⊥
 abbrev pub IsRead : CaptureParts → List ℕ → Type 0
 IsRead capture bytes = IsPlain capture × (bytes ≡ capture_text capture)
 
--- the bytes are a capture of the plain form, and the text is the result of its serial history
+-- the bytes are those of one capture of the plain form, and the text is the result of its serial history
 pub record IsAnswer (bytes text : List ℕ) : Type 0 where
   pub capture : CaptureParts
   pub read : IsRead capture bytes
+  pub only : (other : CaptureParts) → IsRead other bytes → other ≡ capture
   pub written : text ≡ result_text (serial_history capture)
 
 -- the source was read to its end, and the sink took the whole result

@@ -1,7 +1,10 @@
 //! Runs over objects in memory.
 
 use crate::top::chanmap;
+use capture_file::{read_capture, write_result};
 use chan_io::{MemSink, MemSource, StdSink};
+use io_caps::TryCopy;
+use serial_player::serial;
 use std::alloc::Global;
 use std::process::Abort;
 use std::test::Fail;
@@ -40,6 +43,28 @@ const MID_TICK_RESULT: &str = "43484d524553310a
     43 00000021 0000000000000003 00 8061 0001 00000002 00000002 000000000000000000000000
     43 0000001d 0000000000000004 01 8060 0002 00000004 00000001 1111 0000 3333 0000
     43 00000021 0000000000000005 01 8061 0002 00000004 00000002 222200 000000 444400 000000
+    45 00000000";
+
+/// Inputs `a` of two channels and `b` of one. The outputs `x` in L16 and `y` in L24 have two channels each: `x` carries
+/// channel 0 of `b` and 1 of `a`, and `y` channel 0 of `a` and nothing. Packets of `a` come at ticks 0 and 1, and one of
+/// `b` at tick 1; then there are two ticks of claims.
+const TWO_INPUTS: &str = "43484d434150310a 44 0000003b
+    0000bb80 0002 0000000000000000 01 02 02
+    01 61 02 10 60 01 01
+    01 62 01 10 61 01 01
+    01 78 02 10 62 00000001 ff 0100 0001
+    01 79 02 18 63 00000002 ff 0000 ff00
+    50 00000015 00 8060 0000 00000000 00000007 0102 fffe 0304 fffd
+    50 00000011 01 8061 0000 00000002 00000007 0506 fffc
+    50 00000015 00 8060 0001 00000002 00000007 0708 fffb 090a fffa
+    54 00000004 00000004
+    45 00000000";
+
+const TWO_INPUTS_RESULT: &str = "43484d524553310a
+    43 0000001e 0000000000000000 0100 8062 0000 00000000 00000001 0000fffe 0000fffd
+    43 00000022 0000000000000001 0100 8063 0000 00000000 00000002 010200000000 030400000000
+    43 0000001e 0000000000000002 0101 8062 0001 00000002 00000001 0506fffb fffcfffa
+    43 00000022 0000000000000003 0100 8063 0001 00000002 00000002 070800000000 090a00000000
     45 00000000";
 
 /// Adds the bytes of hexadecimal digits. Other characters part them.
@@ -175,6 +200,28 @@ fn mid_tick_activation(rt: HostRuntime) -> Result<(), Fail> {
     let ran = run(alloc, &["serial"], input, NO_FAULT)?;
     assert_eq!(rt; ran.out.len(), 311);
     expect(&rt, &ran, 0, &hex(alloc, MID_TICK_RESULT)?, "");
+    Ok(())
+}
+
+/// A block is found where the row of the packet names its input, whatever stands at other inputs.
+#[test]
+fn two_inputs(rt: HostRuntime) -> Result<(), Fail> {
+    let alloc = rt.alloc();
+    let ran = run(alloc, &["serial"], hex(alloc, TWO_INPUTS)?, NO_FAULT)?;
+    expect(&rt, &ran, 0, &hex(alloc, TWO_INPUTS_RESULT)?, "");
+    Ok(())
+}
+
+/// The copy of a history is written as the history is.
+#[test]
+fn history_copied(rt: HostRuntime) -> Result<(), Fail> {
+    let alloc = rt.alloc();
+    let bytes = capture(alloc, MID_TICK)?;
+    let (capture, _) = read_capture(alloc, &bytes).ok().ok_or("a capture")?;
+    let history = serial(alloc, &capture)?.copy()?;
+    let mut text = Vec::new(alloc);
+    write_result(alloc, &capture.setup.device, &history, &mut text)?;
+    assert_eq!(rt; text.as_slice(), hex(alloc, MID_TICK_RESULT)?.as_slice());
     Ok(())
 }
 

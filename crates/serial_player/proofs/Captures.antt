@@ -1,9 +1,9 @@
 -- Captures of the plain form: what is filed of them, and their histories.
 use Rattle.std.proofs.Common.{◌≡◌, ℕ, ◌*◌, ◌/◌, ◌<◌, ◌≤◌, Bool, true, false, cond, eqb, ltb, List, [], ◌∷◌, length, get_or, map, Option, Some, None, refl, ap, subst, ◌∙◌, arith}
 use Rattle.std.specs.Prelude.{All, IsSomeAnd, slice_get, ◌&&◌}
-use Rattle.std.specs.List.{AllByRecursion, cons_option, fold, range_with_len, sum_by}
+use Rattle.std.specs.List.{AllByRecursion, cons_option, range_with_len, sum_by}
 use Rattle.std.proofs.lemmas.Bool.{eqb-true}
-use Rattle.std.proofs.lemmas.List.Elements.{All-from_recursion, recursion_from_All, All-push, All-nil}
+use Rattle.std.proofs.lemmas.List.Elements.{All-from_recursion, recursion_from_All}
 use Rattle.std.proofs.lemmas.List.FromFn.{length-map-range_with_len}
 use Rattle.std.proofs.lemmas.Option.{slice_get-get_or}
 use Rattle.std.proofs.Math.Nat.{div-lt_iff_lt-mul, mul-lt-mul_of_pos_right}
@@ -16,21 +16,17 @@ use Rattle.map_entry.specs.declared.entry.Entry.{Entry}
 use Rattle.capture_file.specs.Capture.{claims_of}
 use Rattle.capture_file.specs.Packets.{IsAlignedPacket, timestamp_of}
 use Rattle.capture_file.specs.Plain.{IsPlain, IsPlainItem}
-use Rattle.capture_file.specs.Records.{FitsItem}
-use Rattle.capture_file.specs.Result.{FitsCall}
 use Rattle.capture_file.specs.declared.history.ClaimItem.{ClaimItem}
 use Rattle.capture_file.specs.declared.records.Item.{Item}
 use Rattle.capture_file.specs.declared.records.Item.TheVariants.{Packet, Ask, Work}
-use Rattle.capture_file.specs.declared.requests.Request.TheVariants.{Activate}
 use Rattle.serial_player.specs.Blocks.{block_of}
-use Rattle.serial_player.specs.Book.{reply_of, call_of}
 use Rattle.capture_file.specs.CaptureReading.{capture_of}
 use Rattle.serial_player.specs.Entries.{AreEntries}
 use Rattle.serial_player.specs.Filed.{filed_at, filed_of, filed_inputs}
 use Rattle.serial_player.specs.Journal.{entries_of}
 use Rattle.serial_player.specs.Packet.{claim_of}
 use Rattle.serial_player.specs.Placed.{IsBlock, IsFiled, AreFiled, filed_claim}
-use Rattle.serial_player.specs.Serial.{start, step, run_of, history_of, serial_history}
+use Rattle.serial_player.specs.Serial.{run_of, history_of, serial_history}
 use Rattle.serial_player.specs.declared.run.Run.{Run}
 use Rattle.serial_player.proofs.Claims.{range_same, claim_is}
 use Rattle.serial_player.proofs.Filing.{filed_at_input}
@@ -69,22 +65,6 @@ filed_are d items end plain channels =
     let i = get_or d.inputs k x in
     rw (filed_at_input items end (length d.inputs) k y lt)
     ((channels k x lt).1, All-from_recursion (IsBlock d.rate i) (filed_of items end k) (blocks_by d items end k i (slice_get-get_or d.inputs k x lt) (recursion_from_All (IsPlainItem d) items plain))))
-
--- ---- the journal fits its records
-
-asked_fits : (s : SetupParts) (run : Run) (item : Item) → All FitsCall run.journal → FitsItem item → All FitsCall (step s run item).journal
-asked_fits s run (Packet input bytes) all fit = all
-asked_fits s run (Ask client (Activate when action)) all fit =
-    All-push FitsCall run.journal (call_of client run.claims (Activate when action) (reply_of s run.journal run.claims (Activate when action))) all fit.1
-asked_fits s run (Work claims) all fit = all
-
-fits_from : (s : SetupParts) (run : Run) (items : List Item) → All FitsCall run.journal → AllByRecursion FitsItem items → All FitsCall (fold (step s) run items).journal
-fits_from s run [] all fit = all
-fits_from s run (item ∷ items) all fit = fits_from s (step s run item) items (asked_fits s run item all fit.0) fit.1
-
-pub journal_fits : (s : SetupParts) (items : List Item) → AllByRecursion FitsItem items → All FitsCall (run_of s items).journal
-unfolding run_of
-journal_fits s items fit = fits_from s start items (All-nil FitsCall) fit
 
 -- ---- the history
 

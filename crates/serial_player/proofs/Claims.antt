@@ -46,7 +46,7 @@ range_same_from {X} f g a (suc n) same =
 pub range_same : {X : Type 0} (f g : ℕ → X) (n : ℕ) → ((i : ℕ) → i < n → f i ≡ g i) → map f (range_with_len 0 n) ≡ map g (range_with_len 0 n)
 range_same f g n same = range_same_from f g 0 n (λ i from to. same i (omega arith))
 
-frames_same_from : {X : Type 0} (f g : ℕ → List X) (a n : ℕ) → ((i : ℕ) → a ≤ i → i < a + n → f i ≡ g i) → flat_map f (range_with_len a n) ≡ flat_map g (range_with_len a n)
+pub frames_same_from : {X : Type 0} (f g : ℕ → List X) (a n : ℕ) → ((i : ℕ) → a ≤ i → i < a + n → f i ≡ g i) → flat_map f (range_with_len a n) ≡ flat_map g (range_with_len a n)
 frames_same_from f g a zero same = refl
 frames_same_from {X} f g a (suc n) same =
     flat_map-cons f a (range_with_len (a + 1) n) ∙ ap (λ (x : List X). x ++ flat_map f (range_with_len (a + 1) n)) (same a (omega arith) (omega arith))

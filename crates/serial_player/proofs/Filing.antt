@@ -9,7 +9,9 @@ use Rattle.capture_file.specs.declared.records.Item.{Item}
 use Rattle.capture_file.specs.declared.records.Item.TheVariants.{Packet, Ask, Work}
 use Rattle.capture_file.specs.Packets.{packets_of, timestamp_of}
 use Rattle.serial_player.specs.Blocks.{has_timestamp}
-use Rattle.serial_player.specs.Filed.{filed_at, filed_of, filed_inputs, IsLong}
+use Rattle.capture_file.specs.CaptureReading.{HasHead}
+use Rattle.capture_file.specs.declared.limits.TheConstants.{HEAD_BYTES}
+use Rattle.serial_player.specs.Filed.{filed_at, filed_of, filed_inputs}
 use Rattle.std.proofs.lemmas.List.FromFn.{get_or-map-range_with_len}
 
 -- one more item of a list
@@ -39,7 +41,7 @@ find_filed (Ask client request ∷ items) input end stamp lt = find_filed items 
 find_filed (Work claims ∷ items) input end stamp lt = find_filed items input end stamp lt
 
 -- filed packets have a fixed head
-put_long : (o : Option (List ℕ)) (xs : List (List ℕ)) → ((packet : List ℕ) → o ≡ Some packet → 12 ≤ length packet) → AllByRecursion (λ packet. 12 ≤ length packet) xs → AllByRecursion (λ packet. 12 ≤ length packet) (cons_option o xs)
+put_long : (o : Option (List ℕ)) (xs : List (List ℕ)) → ((packet : List ℕ) → o ≡ Some packet → HEAD_BYTES ≤ length packet) → AllByRecursion (λ packet. HEAD_BYTES ≤ length packet) xs → AllByRecursion (λ packet. HEAD_BYTES ≤ length packet) (cons_option o xs)
 put_long None xs long h = h
 put_long (Some packet) xs long h = (long packet refl, h)
 
@@ -47,7 +49,7 @@ picked : (b : Bool) (bytes packet : List ℕ) → cond b (Some bytes) None ≡ S
 picked true bytes packet e = cc
 picked false bytes packet e = absurd cc
 
-long_by : (items : List Item) (input end : ℕ) → AllByRecursion IsLong items → AllByRecursion (λ packet. 12 ≤ length packet) (filed_of items end input)
+long_by : (items : List Item) (input end : ℕ) → AllByRecursion HasHead items → AllByRecursion (λ packet. HEAD_BYTES ≤ length packet) (filed_of items end input)
 long_by [] input end h = tt
 long_by (Packet of bytes ∷ items) input end h =
     put_long (filed_at input end (Packet of bytes)) (filed_of items end input)
@@ -56,8 +58,8 @@ long_by (Packet of bytes ∷ items) input end h =
 long_by (Ask client request ∷ items) input end h = long_by items input end h.1
 long_by (Work claims ∷ items) input end h = long_by items input end h.1
 
-pub filed_long : (items : List Item) (input end : ℕ) → All IsLong items → All (λ packet. 12 ≤ length packet) (filed_of items end input)
-filed_long items input end h = All-from_recursion (λ packet. 12 ≤ length packet) (filed_of items end input) (long_by items input end (recursion_from_All IsLong items h))
+pub filed_long : (items : List Item) (input end : ℕ) → All HasHead items → All (λ packet. HEAD_BYTES ≤ length packet) (filed_of items end input)
+filed_long items input end h = All-from_recursion (λ packet. HEAD_BYTES ≤ length packet) (filed_of items end input) (long_by items input end (recursion_from_All HasHead items h))
 
 -- the filed packets of one input
 pub filed_at_input : (items : List Item) (end inputs input : ℕ) (d : List (List ℕ)) → input < inputs → get_or (filed_inputs items end inputs) input d ≡ filed_of items end input

@@ -7,3 +7,5 @@ pub mod Runs
 pub mod Found
 pub mod Claims
 pub mod Captures
+pub mod Wholes
+pub mod Begun

@@ -1,6 +1,6 @@
 -- The packets of each input with a timestamp below the session's end. A claim finds the same packet among them as among all
 -- packets of the capture. (This project's own.)
-use Rattle.std.specs.Prelude.{ℕ, ◌≤◌, ◌==◌, ◌&&◌, nat_lt, if◌then◌else◌, List, [], length, map, slice_index_or, Option, Some, None}
+use Rattle.std.specs.Prelude.{ℕ, ◌==◌, ◌&&◌, nat_lt, if◌then◌else◌, List, [], map, slice_index_or, Option, Some, None}
 use Rattle.std.specs.List.{filter_map, find, list_any, range_with_len}
 use Rattle.map_entry.specs.declared.cell.Cell.{Cell}
 use Rattle.capture_file.specs.declared.records.Item.{Item}
@@ -8,12 +8,6 @@ use Rattle.capture_file.specs.declared.records.Item.TheVariants.{Packet, Ask, Wo
 use Rattle.capture_file.specs.Packets.{timestamp_of}
 use Rattle.serial_player.specs.Blocks.{has_timestamp}
 use Rattle.serial_player.specs.Packet.{names}
-
--- a packet has a fixed head
-abbrev pub IsLong : Item → Type 0
-IsLong (Packet input bytes) = 12 ≤ length bytes
-IsLong (Ask client request) = Unit {0}
-IsLong (Work claims) = Unit {0}
 
 abbrev pub filed_at : ℕ → ℕ → Item → Option (List ℕ)
 filed_at input end (Packet of bytes) = if (of == input) && nat_lt (timestamp_of bytes) end then Some bytes else None

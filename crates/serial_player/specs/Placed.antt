@@ -18,11 +18,12 @@ use Rattle.io_caps.specs.declared.port.Input.{Input}
 use Rattle.map_entry.specs.declared.cell.Cell.{Cell}
 use Rattle.map_entry.specs.declared.cell.Cell.TheVariants.{Unrouted, From}
 use Rattle.rtp_pcm.specs.Pcm.{sample_of, payload_of}
+use Rattle.capture_file.specs.declared.limits.TheConstants.{HEAD_BYTES}
 use Rattle.capture_file.specs.Packets.{plain_payload_of}
 
 -- a packet has the fixed head and the frames of one tick
 abbrev pub IsBlock : Rate → Input → List ℕ → Type 0
-IsBlock rate i packet = length packet ≡ 12 + rate.frames * (length i.labels * bytes_per_sample i.width)
+IsBlock rate i packet = length packet ≡ HEAD_BYTES + rate.frames * (length i.labels * bytes_per_sample i.width)
 
 -- an input has a packet that was found, or none
 abbrev pub IsInputBlock : Rate → Input → Option (List ℕ) → Type 0

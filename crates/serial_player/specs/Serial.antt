@@ -1,9 +1,11 @@
 -- The serial history of a capture: its records in order, on one thread. (This project's own.)
-use Rattle.std.specs.Prelude.{ℕ, ◌+◌, List, [], ◌∷◌, ◌++◌, length, map}
+use Rattle.std.specs.Prelude.{ℕ, ◌+◌, ◌*◌, ◌/◌, List, [], ◌∷◌, ◌++◌, length, map}
 use Rattle.std.specs.List.{fold, range_with_len}
 use Rattle.map_entry.specs.Setup.{SetupParts}
 use Rattle.capture_file.specs.Capture.{CaptureParts}
+use Rattle.capture_file.specs.declared.history.ClaimItem.{ClaimItem}
 use Rattle.capture_file.specs.declared.history.History.{History}
+use Rattle.capture_file.specs.declared.history.JournalCall.{JournalCall}
 use Rattle.capture_file.specs.declared.history.Said.TheVariants.{Plain}
 use Rattle.capture_file.specs.declared.records.Item.{Item}
 use Rattle.capture_file.specs.declared.records.Item.TheVariants.{Packet, Ask, Work}
@@ -11,6 +13,7 @@ use Rattle.capture_file.specs.declared.requests.Request.{Request}
 use Rattle.serial_player.specs.declared.run.Run.{Run}
 use Rattle.serial_player.specs.Blocks.{block_of}
 use Rattle.serial_player.specs.Book.{reply_of, call_of}
+use Rattle.serial_player.specs.Journal.{calls_before}
 use Rattle.serial_player.specs.Packet.{claim_of}
 
 abbrev pub start : Run
@@ -46,3 +49,12 @@ history_of s items run =
 
 unfoldable pub serial_history : CaptureParts → History
 serial_history c = history_of c.setup c.items (run_of c.setup c.items)
+
+-- the first claim of the tick of claim k
+abbrev pub first_of_tick : ℕ → ℕ → ℕ
+first_of_tick outputs k = k / outputs * outputs
+
+-- claim k by the calls alone that were accepted before its tick began
+abbrev pub claim_by_begin : CaptureParts → List JournalCall → ℕ → ClaimItem
+claim_by_begin c journal k =
+    claim_of c.setup (calls_before (first_of_tick (length c.setup.device.outputs) k) journal) (block_of c.setup.device c.items) k

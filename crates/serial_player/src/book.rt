@@ -10,7 +10,7 @@ ghost use Rattle.serial_player.specs.Entries.{AreEntries, EntryFits, HasRow};
 ghost use Rattle.serial_player.specs.Journal.{base_entries, begin, change_entry, action_entries, request_entries};
 ghost use Rattle.serial_player.specs.Serial.{asked};
 
-use crate::Run;
+use crate::run::Run;
 use capture_file::{JournalCall, Reply, ReplyItem, Request, Said, Stamp};
 use io_caps::{NoMemory, TryCopy};
 use map_entry::{Action, Entries, Entry, OutputChange, Row, Setup, apply, first_tick, select};
@@ -38,6 +38,7 @@ pub(crate) fn row<'a>(setup: &Setup, entries: &'a Entries, output: u8, tick: u64
     ensures value { selected entries.now output tick ≡ Some result.now }
     ensures fits { IsSomeAnd (slice_get setup.now.device.outputs output) (λ o. HasRow setup.now.device.inputs o result.now) }
 {
+    // The premises name it.
     let _ = setup;
     match select(entries, output, tick) {
         Some(row) => row,
@@ -91,6 +92,7 @@ fn changes(
 }
 
 /// Answers a client's request at the calls and claims so far, and appends its call and its entries.
+#[tactic(auto, using(crate::proofs::Runs::activations))]
 pub(crate) fn ask(
     alloc: Global,
     setup: &Setup,
@@ -112,16 +114,12 @@ pub(crate) fn ask(
     let device = &setup.device;
     let claims = run.claims;
     let calls = run.journal.len() as u64;
+    // Each call so far is an activation.
     let id = calls + 1;
     let tick = first_tick(device.base(), device.outputs(), claims);
     entries.append(changes(alloc, setup, entries, claims, tick, action)?)?;
-    run.journal.push(JournalCall {
-        at: claims,
-        client,
-        id,
-        tick,
-        request: request.copy()?,
-    })?;
+    let call = JournalCall::new(claims, client, id, tick, request.copy()?);
+    run.journal.push(call)?;
     run.replies.push(ReplyItem {
         client,
         stamp: Stamp { calls, claims },

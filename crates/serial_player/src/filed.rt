@@ -2,9 +2,11 @@
 
 ghost use Rattle.std.specs.Prelude.{◌≡◌, ◌≤◌, ◌<◌, List, ℕ, IfOk, OnOk, length, map, All};
 ghost use Rattle.std.specs.List.{filter_map, find, list_any, range_with_len};
+ghost use Rattle.capture_file.specs.CaptureReading.{HasHead};
 ghost use Rattle.capture_file.specs.Packets.{timestamp_of};
+ghost use Rattle.capture_file.specs.declared.limits.TheConstants.{HEAD_BYTES};
 ghost use Rattle.serial_player.specs.Blocks.{has_timestamp};
-ghost use Rattle.serial_player.specs.Filed.{filed_at, filed_of, filed_inputs, found_in, found_blocks, IsLong};
+ghost use Rattle.serial_player.specs.Filed.{filed_at, filed_of, filed_inputs, found_in, found_blocks};
 ghost use Rattle.serial_player.specs.Packet.{names};
 
 use byteorder::{BigEndian, ByteOrder};
@@ -35,8 +37,9 @@ impl<'a> Filed<'a> {
         self.bytes
     }
 
+    /// Its timestamp (RFC 3550, section 5.1).
     fn stamp(&self) -> u32
-        requires { 12 ≤ length self.now }
+        requires { HEAD_BYTES ≤ length self.now }
         ensures { result ≡ timestamp_of self.now }
     {
         BigEndian::read_u32(&self.bytes[4..])
@@ -45,14 +48,16 @@ impl<'a> Filed<'a> {
 
 /// The packet of a record, where it is of the input and its timestamp is below the end.
 fn file_item<'a>(item: &'a Item, input: u8, end: u64) -> Option<Filed<'a>>
-    requires { IsLong item.now }
+    requires { HasHead item.now }
     ensures { result ≡ filed_at input end item.now }
 {
     match item {
         Item::Packet { input: of, bytes } => {
-            let bytes = bytes.as_slice();
-            if *of == input && u64::from(BigEndian::read_u32(&bytes[4..])) < end {
-                Some(Filed { bytes })
+            let packet = Filed {
+                bytes: bytes.as_slice(),
+            };
+            if *of == input && u64::from(packet.stamp()) < end {
+                Some(packet)
             } else {
                 None
             }
@@ -68,7 +73,7 @@ fn file_input<'a>(
     input: u8,
     end: u64,
 ) -> Result<ListOf<Filed<'a>>, NoMemory>
-    requires { All IsLong items.now }
+    requires { All HasHead items.now }
     ensures { IfOk result (λ made. made ≡ filed_of items.now end input) }
 {
     let mut made = ListOf::new(alloc);
@@ -88,7 +93,7 @@ pub(crate) fn file<'a>(
     inputs: u8,
     end: u64,
 ) -> Result<ListOf<ListOf<Filed<'a>>>, NoMemory>
-    requires { All IsLong items.now }
+    requires { All HasHead items.now }
     ensures { IfOk result (λ made. made ≡ filed_inputs items.now end inputs) }
 {
     let mut made = ListOf::new(alloc);
@@ -100,7 +105,7 @@ pub(crate) fn file<'a>(
 
 /// The first packet with a timestamp.
 fn find_packet<'a>(filed: &[Filed<'a>], stamp: u64) -> Option<Filed<'a>>
-    requires { All (λ packet. 12 ≤ length packet) filed.now }
+    requires { All (λ packet. HEAD_BYTES ≤ length packet) filed.now }
     ensures { result ≡ find (has_timestamp stamp) filed.now }
 {
     for packet in filed {
@@ -130,7 +135,7 @@ fn row_names(input: u8, row: &[Cell]) -> bool
 
 /// The first packet of an input with a timestamp, where the row names the input.
 fn named_packet<'a>(filed: &[Filed<'a>], row: &[Cell], input: u8, stamp: u64) -> Option<Filed<'a>>
-    requires { All (λ packet. 12 ≤ length packet) filed.now }
+    requires { All (λ packet. HEAD_BYTES ≤ length packet) filed.now }
     ensures { result ≡ found_in row.now stamp filed.now input }
 {
     if row_names(input, row) {
@@ -147,7 +152,7 @@ pub(crate) fn look_up<'a>(
     row: &[Cell],
     stamp: u64,
 ) -> Result<(), NoMemory>
-    requires long { All (All (λ packet. 12 ≤ length packet)) filed.now }
+    requires long { All (All (λ packet. HEAD_BYTES ≤ length packet)) filed.now }
     requires few { length filed.now ≤ 255 }
     ensures { OnOk result (blocks.new ≡ found_blocks row.now stamp filed.now (length filed.now)) }
 {

@@ -7,19 +7,19 @@ ghost use Rattle.capture_file.specs.Capture.{IsCapture, claims_of};
 ghost use Rattle.capture_file.specs.Plain.{IsPlain, IsPlainItem};
 ghost use Rattle.serial_player.specs.Blocks.{block_of};
 ghost use Rattle.serial_player.specs.Entries.{AreEntries};
-ghost use Rattle.serial_player.specs.Filed.{filed_inputs, IsLong};
+ghost use Rattle.serial_player.specs.Filed.{filed_inputs};
 ghost use Rattle.serial_player.specs.Journal.{entries_of};
 ghost use Rattle.serial_player.specs.Packet.{claim_of};
 ghost use Rattle.serial_player.specs.Placed.{AreFiled, filed_claim};
 ghost use Rattle.capture_file.specs.Result.{FitsClaim, FitsHistory};
 ghost use Rattle.io_caps.specs.declared.limits.TheConstants.{TICKS_PAST_BASE};
 ghost use Rattle.capture_file.specs.CaptureReading.{capture_of};
-ghost use Rattle.serial_player.specs.Serial.{step, run_of, serial_history};
+ghost use Rattle.serial_player.specs.Serial.{step, run_of, serial_history, claim_by_begin};
 
-use crate::Run;
 use crate::book::{ask, base, row};
 use crate::filed::{Filed, file, look_up};
 use crate::packets::{flags, packet};
+use crate::run::Run;
 use capture_file::{Capture, ClaimItem, ClaimItems, History, Item, Journal, ReplyItems};
 use io_caps::{ListOf, NoMemory};
 use map_entry::{Entries, Setup, claim_output, claim_tick};
@@ -91,7 +91,7 @@ fn claim<'a>(
     requires filed { AreFiled setup.now.device filed.now }
     requires claim { k < TICKS_PAST_BASE }
     ensures value { IfOk result (λ made. made ≡ filed_claim setup.now entries.now filed.now k) }
-    ensures fits { IfOk result FitsClaim }
+    ensures fits { IfOk result (FitsClaim setup.now.device) }
 {
     let device = &setup.device;
     let rate = device.rate();
@@ -120,7 +120,7 @@ fn claims(
     requires filed { AreFiled setup.now.device filed.now }
     requires count { count ≤ TICKS_PAST_BASE }
     ensures value { IfOk result (λ made. made ≡ map (filed_claim setup.now entries.now filed.now) (range_with_len 0 count)) }
-    ensures fits { IfOk result (All FitsClaim) }
+    ensures fits { IfOk result (All (FitsClaim setup.now.device)) }
 {
     let mut blocks = ListOf::new(alloc);
     let mut made = ClaimItems::new(alloc);
@@ -134,7 +134,7 @@ fn claims(
 fn history(alloc: Global, setup: &Setup, items: &[Item], ticks: u64) -> Result<History, NoMemory>
     requires plain { IsPlain (capture_of setup.now items.now ticks) }
     ensures value { IfOk result (λ made. made ≡ serial_history (capture_of setup.now items.now ticks)) }
-    ensures fits { IfOk result FitsHistory }
+    ensures fits { IfOk result (FitsHistory setup.now.device) }
 {
     let (run, entries) = run(alloc, setup, items)?;
     let device = &setup.device;
@@ -153,7 +153,11 @@ fn history(alloc: Global, setup: &Setup, items: &[Item], ticks: u64) -> Result<H
 pub fn serial(alloc: Global, capture: &Capture) -> Result<History, NoMemory>
     requires { IsPlain capture.now }
     ensures value { IfOk result (λ made. made ≡ serial_history capture.now) }
-    ensures fits { IfOk result FitsHistory }
+    // It is a whole history of the capture's device.
+    ensures fits { IfOk result (FitsHistory capture.now.setup.device) }
+    // A claim is by the calls alone that were accepted before the first claim of its tick: no activation changes a tick
+    // that has begun.
+    ensures begun { IfOk result (λ made. made.claims ≡ map (claim_by_begin capture.now made.journal) (range_with_len 0 (length made.claims))) }
 {
     history(
         alloc,

@@ -8,7 +8,7 @@ use Rattle.chanmap.proofs.top.answer.Goals as goal
 pub returns-then-place-bytes-clause-refused : goal.returns-then-place-bytes-clause-refused
 returns-then-place-bytes-clause-refused c fault capture read =
     let behind = c.in_ok-capture.ensures.only capture [] read.0 (read.1 ∙ sym (append-nil (capture_text capture))) in
-    omega (arith, ap length behind, length-drop c.in_ok-capture.place c.args.bytes.now, c.in_ok-capture.ensures.found.1, c.if-place-bytes.true)
+    omega (arith, ap length behind.1, length-drop c.in_ok-capture.place c.args.bytes.now, c.in_ok-capture.ensures.found.1, c.if-place-bytes.true)
 
 pub returns-clause-ok : goal.returns-clause-ok
 returns-clause-ok c =
@@ -19,5 +19,6 @@ returns-clause-ok c =
     record {
       capture = capture;
       read = (found.0, found.2 ∙ ap (λ (rest : List ℕ). capture_text capture ++ rest) nothing ∙ append-nil (capture_text capture));
+      only = λ other read. (c.in_ok-capture.ensures.only other [] read.0 (read.1 ∙ sym (append-nil (capture_text other)))).0;
       written = c.in_ok-write_result.ensures.ok ∙ ap (λ (front : List ℕ). front ++ result_text c.in_ok-history.history) c.new-text.ensures.items ∙ ap result_text c.in_ok-history.ensures.value;
     }

@@ -1,6 +1,7 @@
 use Rattle.std.proofs.Common.{◌≡◌, ◌+◌, ◌*◌, ◌≤◌, List, length, sym, ap, subst, ◌∙◌, arith}
 use Rattle.std.specs.Prelude.{is_some}
 use Rattle.std.proofs.lemmas.List.{length-map}
+use Rattle.std.proofs.lemmas.Slice.Zip.{AllZip-long}
 use Rattle.io_caps.specs.Port.{FitsPacket, IsPayloadType}
 use Rattle.io_caps.specs.declared.port.Output.{Output}
 use Rattle.io_caps.specs.Rate.{bytes_per_sample}
@@ -8,7 +9,7 @@ use Rattle.io_caps.specs.declared.device.DeviceParts.{DeviceParts}
 use Rattle.io_caps.specs.declared.rate.Rate.{Rate}
 use Rattle.map_entry.specs.Setup.{SetupParts}
 use Rattle.map_entry.specs.declared.cell.Cell.{Cell}
-use Rattle.serial_player.specs.Placed.{AreFiled}
+use Rattle.serial_player.specs.Placed.{AreFiled, IsFiled}
 use Rattle.serial_player.proofs.Fits.{RowAt}
 use Rattle.map_entry.proofs.Rows.{All-slice_get}
 use Rattle.serial_player.proofs.Found.{all_long, filed_few, found_are, length-found, packet_small, tick_small}
@@ -52,4 +53,5 @@ returns-clause-fits c =
     ∙ ap (λ (r : List Cell). 12 + d.rate.frames * (length r * bytes_per_sample output.width)) c.as_slice-row.ensures in
     let blocks = ap length c.in_ok-look_up.ensures ∙ length-found c.as_slice-row.result.now (c.claim_tick-tick.result * c.from.result) c.args.filed.now (length c.args.filed.now) in
     let flags = ap length c.in_ok-found.ensures ∙ length-map c.as_slice.result.now is_some ∙ ap length c.as_slice.ensures ∙ blocks in
-    omega (arith, few, flags, long, packet_small d.rate.frames (length row) (bytes_per_sample output.width) (length output.labels) cells packets)
+    let each = AllZip-long (IsFiled c.args.setup.now.device.rate) c.args.setup.now.device.inputs c.args.filed.now c.requires.filed in
+    omega (arith, few, flags, each, long, packet_small d.rate.frames (length row) (bytes_per_sample output.width) (length output.labels) cells packets)

@@ -2,10 +2,9 @@
 
 use crate::device::setup;
 use crate::fault::NOT_YET;
-use crate::result_tests::hex;
-use crate::{Capture, CaptureFault, Item, Request, When, read_capture};
-use io_caps::{Input, Or, Output, Parent, Routable, TryCopy, Width};
-use map_entry::{Cell, Change};
+use crate::{Capture, CaptureFault, CaptureKind, Item, Reply, Request, Stamp, When, read_capture};
+use io_caps::{Bytes, Input, NoMemory, Or, Output, Parent, Routable, TryCopy, Width};
+use map_entry::{Cell, Change, OutputChange};
 use std::alloc::Global;
 use std::process::Abort;
 use std::test::Fail;
@@ -35,6 +34,32 @@ const MID_TICK: &str = "43484d434150310a
     54 00000004 00000003
     45 00000000";
 
+/// The packet of `MID_TICK`.
+const PACKET: [u8; 20] = [
+    0x80, 0x60, 0, 0, 0, 0, 0, 4, 0, 0, 0, 0x63, 0x11, 0x11, 0x22, 0x22, 0x33, 0x33, 0x44, 0x44,
+];
+
+/// The bytes of hexadecimal digits. Other characters part them.
+fn hex(alloc: Global, digits: &str) -> Result<Bytes, NoMemory> {
+    let mut made = Bytes::new(alloc);
+    let mut high: Option<u8> = None;
+    for digit in digits.bytes() {
+        let value = match digit {
+            b'0'..=b'9' => digit - b'0',
+            b'a'..=b'f' => digit - b'a' + 10,
+            _ => continue,
+        };
+        match high {
+            None => high = Some(value),
+            Some(first) => {
+                made.push(first.wrapping_mul(16).wrapping_add(value))?;
+                high = None;
+            }
+        }
+    }
+    Ok(made)
+}
+
 /// A capture of this device, with these records.
 fn read(alloc: Global, device: &str, records: &str) -> Result<Option<usize>, Fail> {
     let mut bytes = hex(alloc, "43484d434150310a 44 000000")?;
@@ -57,56 +82,73 @@ fn is_refused(read: Result<(Capture, usize), Or<CaptureFault>>) -> bool {
     }
 }
 
+fn check_change(rt: &impl Abort, change: &OutputChange, output: u8) {
+    let cell = Cell::From {
+        input: 0,
+        channel: output,
+    };
+    assert_eq!(rt; change.output, output);
+    assert_eq!(rt; change.changes(), [Change { channel: 0, cell }].as_slice());
+}
+
+fn check_request(rt: &impl Abort, request: &Request) {
+    let Request::Activate { when, action } = request;
+    assert!(rt; *when == When::Now);
+    assert_eq!(rt; action.len(), 2);
+    for output in 0..2u8 {
+        if let Some(change) = action.get(output as usize) {
+            check_change(rt, change, output);
+        }
+    }
+}
+
+/// The records of `MID_TICK`.
+fn check_items(rt: &impl Abort, items: &[Item]) {
+    match items {
+        [
+            Item::Packet { input: 0, bytes },
+            Item::Work { claims: 3 },
+            Item::Ask { client: 0, request },
+            Item::Work { claims: 3 },
+        ] => {
+            assert_eq!(rt; bytes.as_slice(), PACKET.as_slice());
+            check_request(rt, request);
+        }
+        _ => assert!(rt; false, "other records"),
+    }
+}
+
 #[test]
 fn mid_tick_activation_read(rt: HostRuntime) -> Result<(), Fail> {
     let mut bytes = hex(rt.alloc(), MID_TICK)?;
     bytes.push(0x45)?;
-    let (read, place) = read_capture(rt.alloc(), bytes.as_slice())
+    let (capture, place) = read_capture(rt.alloc(), bytes.as_slice())
         .ok()
         .ok_or("the capture is read")?;
     assert_eq!(rt; place, 132);
-    let capture = read.copy()?;
     assert_eq!(rt; capture.ticks, 3);
-    let items = capture.items.as_slice();
+    let copied = capture.copy()?;
+    check_items(&rt, copied.items.as_slice());
+    Ok(())
+}
+
+/// Whether a value has a copy, and it is equal.
+fn is_copied<T: TryCopy + PartialEq>(value: T) -> Result<bool, NoMemory> {
+    Ok(value.copy()? == value)
+}
+
+#[test]
+fn parts_copied(rt: HostRuntime) -> Result<(), Fail> {
+    assert!(rt; is_copied(CaptureKind::NotYet)?);
+    assert!(rt; is_copied(NOT_YET)?);
+    assert!(rt; is_copied(When::Now)?);
+    assert!(rt; is_copied(Reply::Activated { id: 1, tick: 2 })?);
     assert!(rt;
-        matches!(
-            items,
-            [
-                Item::Packet { input: 0, .. },
-                Item::Work { claims: 3 },
-                Item::Ask { client: 0, .. },
-                Item::Work { claims: 3 }
-            ]
-        )
+        is_copied(Stamp {
+            calls: 3,
+            claims: 4,
+        })?
     );
-    let packet = hex(
-        rt.alloc(),
-        "8060 0000 00000004 00000063 1111 2222 3333 4444",
-    )?;
-    if let Some(Item::Packet { bytes, .. }) = items.first() {
-        assert_eq!(rt; bytes.as_slice(), packet.as_slice());
-    }
-    if let Some(Item::Ask { request, .. }) = items.get(2) {
-        let Request::Activate { when, action } = request;
-        assert!(rt; *when == When::Now);
-        let changes = action.as_slice();
-        assert_eq!(rt; changes.len(), 2);
-        if let Some(last) = changes.last() {
-            assert_eq!(rt; last.output, 1);
-            let from = Cell::From {
-                input: 0,
-                channel: 1,
-            };
-            assert_eq!(rt;
-                last.changes(),
-                [Change {
-                    channel: 0,
-                    cell: from
-                }]
-                .as_slice()
-            );
-        }
-    }
     Ok(())
 }
 
