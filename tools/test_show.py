@@ -2,13 +2,16 @@
 
 from __future__ import annotations
 
+import errno
 import importlib.machinery
 import importlib.util
+import os
 import pathlib
 import random
 import re
 import subprocess
 import sys
+import tempfile
 import unittest
 
 sys.dont_write_bytecode = True
@@ -301,12 +304,12 @@ class Faults(unittest.TestCase):
             (CAPTURE_MAGIC + "5a 00000001 00" + END, "unknown at 8: capture record with tag 5a"),
             (CAPTURE_MAGIC + "43 00000000" + END, "unknown at 8: capture record with tag 43"),
             (RESULT_MAGIC + "44 00000000" + END, "unknown at 8: result record with tag 44"),
-            (CAPTURE_MAGIC + record("A", "00 06") + END, "unknown at 8: op 06"),
-            (CAPTURE_MAGIC + record("A", "00 00 01 00 01 00 ff01") + END, "unknown at 8: cell ff 01"),
-            (RESULT_MAGIC + record("R", "00" * 17 + "02") + END, "unknown at 8: form 02"),
-            (RESULT_MAGIC + record("R", "00" * 17 + "01 05") + END, "unknown at 8: reply code 05"),
-            (RESULT_MAGIC + record("R", "00" * 17 + "01 14 00 06 00") + END, "unknown at 8: check 06"),
-            (RESULT_MAGIC + record("C", "00" * 8 + "01 0260") + END, "unknown at 8: RTP version 0"),
+            (CAPTURE_MAGIC + record("A", "00 06") + END, "unknown at 8: op 06 (record 41)"),
+            (CAPTURE_MAGIC + record("A", "00 00 01 00 01 00 ff01") + END, "unknown at 8: cell ff 01 (record 41)"),
+            (RESULT_MAGIC + record("R", "00" * 17 + "02") + END, "unknown at 8: form 02 (record 52)"),
+            (RESULT_MAGIC + record("R", "00" * 17 + "01 05") + END, "unknown at 8: reply code 05 (record 52)"),
+            (RESULT_MAGIC + record("R", "00" * 17 + "01 14 00 06 00") + END, "unknown at 8: check 06 (record 52)"),
+            (RESULT_MAGIC + record("C", "00" * 8 + "01 0260") + END, "unknown at 8: RTP version 0 (record 43)"),
         ]:
             with self.subTest(data=data):
                 self.assertEqual(faults_of(data), [fault])
@@ -314,18 +317,25 @@ class Faults(unittest.TestCase):
     def test_wrong_lengths(self) -> None:
         device = record("D", DEVICE)
         for data, fault in [
-            (CAPTURE_MAGIC + record("T", "000001") + END, "wrong length at 8: field of 4 at 13, 3 there"),
-            (CAPTURE_MAGIC + record("T", "0000000100") + END, "wrong length at 8: 1 byte too many"),
-            (CAPTURE_MAGIC + record("P", "") + END, "wrong length at 8: field of 1 at 13, 0 there"),
-            (CAPTURE_MAGIC + record("D", DEVICE + "0000") + END, "wrong length at 8: 2 bytes too many"),
-            (CAPTURE_MAGIC + "45 00000001 00", "wrong length at 8: 1 byte too many"),
+            (CAPTURE_MAGIC + record("T", "000001") + END, "wrong length at 8: field of 4 at 13, 3 there (record 54)"),
+            (CAPTURE_MAGIC + record("T", "0000000100") + END, "wrong length at 8: 1 byte too many (record 54)"),
+            (CAPTURE_MAGIC + record("P", "") + END, "wrong length at 8: field of 1 at 13, 0 there (record 50)"),
+            (CAPTURE_MAGIC + record("D", DEVICE + "0000") + END, "wrong length at 8: 2 bytes too many (record 44)"),
+            (CAPTURE_MAGIC + "45 00000001 00", "wrong length at 8: 1 byte too many (record 45)"),
             (
                 CAPTURE_MAGIC + device + END + RESULT_MAGIC + record("C", "00" * 9 + "8060") + END,
-                "wrong length at 78: packet of 20 bytes, 2 there",
+                "wrong length at 78: packet of 20 bytes, 2 there (record 43)",
             ),
         ]:
             with self.subTest(data=data):
                 self.assertEqual(faults_of(data), [fault])
+
+    def test_a_capture_takes_no_ids_from_the_text_before(self) -> None:
+        asked = record("A", "00 00 01 00 01 00 0001")
+        for device in (record("J", "7b7d"), record("D", DEVICE[:-2])):
+            with self.subTest(device=device):
+                data = CAPTURE + bytes.fromhex(CAPTURE_MAGIC + device + asked + END)
+                self.assertTrue(lines_of(data)[0][-2].endswith("at once: #0 0 <- #0 1"))
 
     def test_goes_on_behind_a_whole_record(self) -> None:
         lines, faults = lines_of(CAPTURE.replace(bytes.fromhex("54 00000004"), b"Z\0\0\0\4"))
@@ -343,6 +353,13 @@ class Faults(unittest.TestCase):
             tag = chance.choice("DJPQATECHR")
             magic = CAPTURE_MAGIC if tag in "DJPQATE" else RESULT_MAGIC
             self.assertTrue(lines_of(bytes.fromhex(magic + record(tag, noise.hex()) + END))[0])
+
+    def test_bytes_without_a_magic_give_one_fault(self) -> None:
+        chance = random.Random(2)
+        for _ in range(2000):
+            lines, faults = lines_of(chance.randbytes(chance.randrange(80)))
+            self.assertEqual((len(lines), lines), (1, faults))
+            self.assertRegex(lines[0], r"^(cut|unknown) at 0: ")
 
 
 class Command(unittest.TestCase):
@@ -371,6 +388,31 @@ class Command(unittest.TestCase):
                 status, out, err = run(*words)
                 self.assertEqual((status, out), (2, ""))
                 self.assertNotIn("Traceback", err)
+
+    def test_file_that_cannot_be_read(self) -> None:
+        with tempfile.TemporaryDirectory() as folder:
+            missing = os.path.join(folder, "none")
+            for words, path, cause in [
+                ([folder], folder, errno.EISDIR),
+                ([missing], missing, errno.ENOENT),
+                (["--device", missing], missing, errno.ENOENT),
+            ]:
+                with self.subTest(words=words):
+                    line = f"show: {path}: {os.strerror(cause)}\n"
+                    self.assertEqual(run(*words, data=RESULT), (2, "", line))
+
+    @unittest.skipUnless(os.path.exists("/dev/full"), "needs a device that is always full")
+    def test_output_that_cannot_be_written(self) -> None:
+        with open("/dev/full", "wb") as full:
+            done = subprocess.run(
+                [sys.executable, str(PROGRAM)],
+                input=CAPTURE,
+                stdout=full,
+                stderr=subprocess.PIPE,
+                check=False,
+            )
+        line = f"show: {os.strerror(errno.ENOSPC)}\n"
+        self.assertEqual((done.returncode, done.stderr.decode()), (2, line))
 
     def test_help(self) -> None:
         status, out, _ = run("--help")
