@@ -3,6 +3,9 @@
 ghost use Rattle.std.specs.Prelude.{◌≡◌, ◌<◌, ◌^◌};
 ghost use Rattle.map_entry.specs.Tick.{claim_tick, claim_output, first_tick};
 
+/// Numbers of claims are below this, 2^40. (This project's own.)
+pub const CLAIMS_LIMIT: u64 = 1 << 40;
+
 /// The output of a claim: claim k is the packet of output k mod n, with n outputs.
 pub fn claim_output(outputs: u8, claim: u64) -> u8
     requires { 0 < outputs }
@@ -25,7 +28,6 @@ pub fn claim_tick(base: u64, outputs: u8, claim: u64) -> u64
 /// the base.
 pub fn first_tick(base: u64, outputs: u8, claims: u64) -> u64
     requires some { 0 < outputs }
-    requires claims { claims < 2 ^ 40 }
     requires sum { first_tick base outputs claims < 2 ^ 64 }
     ensures { result ≡ first_tick base outputs claims }
 {

@@ -14,7 +14,7 @@ mod setup;
 pub use action::Action;
 pub use cell::Cell;
 pub use change::{Change, OutputChange};
-pub use claims::{claim_output, claim_tick, first_tick};
+pub use claims::{CLAIMS_LIMIT, claim_output, claim_tick, first_tick};
 pub use entry::Entry;
 pub use fault::{RowFault, SetupFault};
 use io_caps::ListOf;

@@ -3,6 +3,7 @@
 ghost use Rattle.std.specs.Prelude.{◌≡◌, ◌≤◌, ◌<◌, ◌+◌, ◌*◌, ◌^◌, All, IfOk, OnOk, IsSomeAnd, length, map, slice_get};
 ghost use Rattle.std.specs.List.{range_with_len, sum_by};
 ghost use Rattle.map_entry.specs.Setup.{IsSetup};
+ghost use Rattle.map_entry.specs.declared.claims.TheConstants.{CLAIMS_LIMIT};
 ghost use Rattle.capture_file.specs.Capture.{IsCapture, claims_of};
 ghost use Rattle.capture_file.specs.Plain.{IsPlain, IsPlainItem};
 ghost use Rattle.serial_player.specs.Blocks.{block_of};
@@ -38,7 +39,7 @@ fn take(
     requires entries { AreEntries setup.now.device entries.old }
     requires map { entries.old ≡ entries_of setup.now run.old.journal }
     requires item { IsPlainItem setup.now.device item.now }
-    requires claims { run.old.claims + claims_of item.now < 2 ^ 40 }
+    requires claims { run.old.claims + claims_of item.now < CLAIMS_LIMIT }
     requires calls { length run.old.journal + 1 < 2 ^ 64 }
     ensures run { OnOk result (run.new ≡ step setup.now run.old item.now) }
     ensures map { OnOk result (entries.new ≡ entries_of setup.now run.new.journal) }
@@ -58,7 +59,7 @@ fn take(
 fn run(alloc: Global, setup: &Setup, items: &[Item]) -> Result<(Run, Entries), NoMemory>
     requires setup { IsSetup setup.now }
     requires items { All (IsPlainItem setup.now.device) items.now }
-    requires claims { sum_by claims_of items.now < 2 ^ 40 }
+    requires claims { sum_by claims_of items.now < CLAIMS_LIMIT }
     ensures run { IfOk result (λ r. r.0 ≡ run_of setup.now items.now) }
     ensures map { IfOk result (λ r. r.1 ≡ entries_of setup.now r.0.journal) }
     ensures entries { IfOk result (λ r. AreEntries setup.now.device r.1) }
