@@ -6,7 +6,7 @@ use Rattle.chan_io.specs.Streams.{WholeRead, TakesPrefix, TellsAlike}
 use Rattle.capture_file.specs.Capture.{CaptureParts, capture_text}
 use Rattle.capture_file.specs.Plain.{IsPlain}
 use Rattle.capture_file.specs.Result.{result_text}
-use Rattle.serial_player.specs.Serial.{serial_history}
+use Rattle.serial_player.specs.Serial.{serial_history, KeepsBegunTicks}
 use Rattle.chanmap.specs.declared.top.TheConstants.{MOST_BYTES}
 use Rattle.chanmap.specs.declared.top.End.{End}
 use Rattle.chanmap.specs.declared.top.End.TheVariants.{Usage, ReadFault, WriteFault, Refused, TooLong, NoMemory}
@@ -21,12 +21,14 @@ IsSerial (word ∷ other ∷ words) = ⊥
 abbrev pub IsRead : CaptureParts → List ℕ → Type 0
 IsRead capture bytes = IsPlain capture × (bytes ≡ capture_text capture)
 
--- the bytes are those of one capture of the plain form, and the text is the result of its serial history
+-- The bytes are those of one capture of the plain form, and the text is the result of its serial history, in which no
+-- activation changes a tick that has begun.
 pub record IsAnswer (bytes text : List ℕ) : Type 0 where
   pub capture : CaptureParts
   pub read : IsRead capture bytes
   pub only : (other : CaptureParts) → IsRead other bytes → other ≡ capture
   pub written : text ≡ result_text (serial_history capture)
+  pub begun : KeepsBegunTicks capture (serial_history capture)
 
 -- the source was read to its end, and the sink took the whole result
 pub record IsDone (left_old left_new taken_old taken_new : Option (List ℕ)) : Type 0 where

@@ -1,5 +1,5 @@
 -- The serial history of a capture: its records in order, on one thread. (This project's own.)
-use Rattle.std.specs.Prelude.{ℕ, ◌+◌, ◌*◌, ◌/◌, List, [], ◌∷◌, ◌++◌, length, map}
+use Rattle.std.specs.Prelude.{◌≡◌, ℕ, ◌+◌, ◌*◌, ◌/◌, List, [], ◌∷◌, ◌++◌, length, map}
 use Rattle.std.specs.List.{fold, range_with_len}
 use Rattle.map_entry.specs.Setup.{SetupParts}
 use Rattle.capture_file.specs.Capture.{CaptureParts}
@@ -58,3 +58,7 @@ first_of_tick outputs k = k / outputs * outputs
 abbrev pub claim_by_begin : CaptureParts → List JournalCall → ℕ → ClaimItem
 claim_by_begin c journal k =
     claim_of c.setup (calls_before (first_of_tick (length c.setup.device.outputs) k) journal) (block_of c.setup.device c.items) k
+
+-- No activation changes a tick that has begun: each claim is by the calls alone that were accepted before its tick began.
+abbrev pub KeepsBegunTicks : CaptureParts → History → Type 0
+KeepsBegunTicks c h = h.claims ≡ map (claim_by_begin c h.journal) (range_with_len 0 (length h.claims))

@@ -1,7 +1,8 @@
-use Rattle.std.proofs.Common.{◌≡◌, ℕ, ◌++◌, List, [], length, drop, sym, ap, ◌∙◌, arith}
+use Rattle.std.proofs.Common.{◌≡◌, ℕ, ◌++◌, List, [], length, drop, sym, ap, subst, ◌∙◌, arith}
 use Rattle.std.proofs.lemmas.List.{append-nil, length-drop, drop_all}
 use Rattle.capture_file.specs.Result.{result_text}
 use Rattle.capture_file.specs.Capture.{capture_text}
+use Rattle.serial_player.specs.Serial.{KeepsBegunTicks}
 use Rattle.chanmap.proofs.top.answer.Goals as goal
 
 -- a capture that ended earlier would be read so too
@@ -21,4 +22,5 @@ returns-clause-ok c =
       read = (found.0, found.2 ∙ ap (λ (rest : List ℕ). capture_text capture ++ rest) nothing ∙ append-nil (capture_text capture));
       only = λ other read. (c.in_ok-capture.ensures.only other [] read.0 (read.1 ∙ sym (append-nil (capture_text other)))).0;
       written = c.in_ok-write_result.ensures.ok ∙ ap (λ (front : List ℕ). front ++ result_text c.in_ok-history.history) c.new-text.ensures.items ∙ ap result_text c.in_ok-history.ensures.value;
+      begun = subst (KeepsBegunTicks capture) c.in_ok-history.ensures.value c.in_ok-history.ensures.begun;
     }
