@@ -22,10 +22,11 @@ use Rattle.map_entry.specs.declared.cell.Cell.TheVariants.{Unrouted, From}
 use Rattle.map_entry.specs.declared.entry.Entry.{Entry}
 use Rattle.rtp_pcm.specs.Pcm.{sample_of}
 use Rattle.capture_file.specs.Packets.{packets_of, plain_payload_of}
+use Rattle.capture_file.specs.Plain.{IsPlainItem}
 use Rattle.capture_file.specs.declared.history.JournalCall.{JournalCall}
 use Rattle.capture_file.specs.declared.records.Item.{Item}
-use Rattle.serial_player.specs.Blocks.{samples_of, has_timestamp, block_of}
-use Rattle.serial_player.specs.Filed.{filed_of, filed_inputs, found_in, found_at}
+use Rattle.serial_player.specs.Blocks.{samples_of, block_of}
+use Rattle.serial_player.specs.Filed.{filed_of, filed_inputs, found_in, found_at, has_timestamp}
 use Rattle.serial_player.specs.Journal.{entries_of}
 use Rattle.serial_player.specs.Packet.{row_at, names, is_named, flags_of, sample_in, channels_of, cell_sample, frame_samples, packet_samples, packet_of, claim_of}
 use Rattle.serial_player.specs.Placed.{IsBlock, AreFiled, IsFiled, packet_sample, block_sample, placed_sample, placed_frame, placed_samples, tick_blocks, filed_claim}
@@ -35,6 +36,7 @@ use Rattle.serial_player.proofs.Fits.{RowAt, selected_fits}
 use Rattle.serial_player.proofs.Filing.{find_filed, filed_at_input}
 use Rattle.serial_player.proofs.Found.{found_is, found_fits, length-found, zip_get}
 use Rattle.serial_player.proofs.Places.{place_in, named_within}
+use Rattle.serial_player.proofs.PlainPackets.{payload_at_is}
 
 -- ---- lists that agree place by place
 
@@ -93,10 +95,11 @@ twice : (i : Input) (o : Option (List ℕ)) → option_map (samples_of i.width) 
 twice i None = refl
 twice i (Some packet) = refl
 
-block_is : (d : DeviceParts) (items : List Item) (input tick : ℕ) (i : Input) → slice_get d.inputs input ≡ Some i
+block_is : (d : DeviceParts) (items : List Item) (input tick : ℕ) (i : Input) → All (IsPlainItem d) items → slice_get d.inputs input ≡ Some i
     → block_of d items input tick ≡ option_map (λ packet. samples_of i.width (plain_payload_of packet)) (find (has_timestamp (tick * d.rate.frames)) (packets_of input items))
 unfolding block_of
-block_is d items input tick i is = rw is (twice i (find (has_timestamp (tick * d.rate.frames)) (packets_of input items)))
+block_is d items input tick i plain is =
+    rw is (ap (option_map (samples_of i.width)) (payload_at_is d items input (tick * d.rate.frames) plain) ∙ twice i (find (has_timestamp (tick * d.rate.frames)) (packets_of input items)))
 
 -- the flag that says whether a block was found
 flag_of : (named : Bool) (i : Input) (found : Option (List ℕ)) → (named && is_some (option_map (λ packet. samples_of i.width (plain_payload_of packet)) found)) ≡ is_some (cond named found None)
@@ -142,34 +145,34 @@ found_over_all d items end row stamp input lt within =
 named_is : (d : DeviceParts) (entries : List Entry) (output tick input : ℕ) → 1 ≤ d.rate.frames → is_named d entries output tick input ≡ list_any (names input) (row_at entries output tick 0)
 named_is d entries output tick input some = any_frame (list_any (names input) (row_at entries output tick 0)) 0 d.rate.frames some
 
-flag_is : (d : DeviceParts) (items : List Item) (entries : List Entry) (output tick end input : ℕ) → tick * d.rate.frames < end → 1 ≤ d.rate.frames → input < length d.inputs
+flag_is : (d : DeviceParts) (items : List Item) (entries : List Entry) (output tick end input : ℕ) → All (IsPlainItem d) items → tick * d.rate.frames < end → 1 ≤ d.rate.frames → input < length d.inputs
     → is_some (found_at (row_at entries output tick 0) (tick * d.rate.frames) (filed d items end) input) ≡ (is_named d entries output tick input && is_some (block_of d items input tick))
-flag_is d items entries output tick end input lt some within =
+flag_is d items entries output tick end input plain lt some within =
     let row = row_at entries output tick 0 in
     let i = some_and (slice_get d.inputs input) (λ x. Unit {0}) (there d.inputs input within) in
     let found = find (has_timestamp (tick * d.rate.frames)) (packets_of input items) in
     ap is_some (found_over_all d items end row (tick * d.rate.frames) input lt within) ∙ sym (flag_of (list_any (names input) row) i.0 found)
-    ∙ sym (ap (λ (b : Bool). b && is_some (block_of d items input tick)) (named_is d entries output tick input some) ∙ ap (λ (o : Option (List ℤ)). list_any (names input) row && is_some o) (block_is d items input tick i.0 i.1))
+    ∙ sym (ap (λ (b : Bool). b && is_some (block_of d items input tick)) (named_is d entries output tick input some) ∙ ap (λ (o : Option (List ℤ)). list_any (names input) row && is_some o) (block_is d items input tick i.0 plain i.1))
 
 map_twice : {X Y Z : Type 0} (g : Y → Z) (f : X → Y) (xs : List X) → map g (map f xs) ≡ map (λ x. g (f x)) xs
 map_twice g f [] = refl
 map_twice {X} {Y} {Z} g f (x ∷ xs) = ap (λ (zs : List Z). g (f x) ∷ zs) (map_twice g f xs)
 
-pub flags_are : (d : DeviceParts) (items : List Item) (entries : List Entry) (output tick end : ℕ) → tick * d.rate.frames < end → 1 ≤ d.rate.frames
+pub flags_are : (d : DeviceParts) (items : List Item) (entries : List Entry) (output tick end : ℕ) → All (IsPlainItem d) items → tick * d.rate.frames < end → 1 ≤ d.rate.frames
     → map is_some (tick_blocks d (filed d items end) (row_at entries output tick 0) tick) ≡ flags_of d entries (block_of d items) output tick
-flags_are d items entries output tick end lt some =
+flags_are d items entries output tick end plain lt some =
     let row = row_at entries output tick 0 in
     let f = found_at row (tick * d.rate.frames) (filed d items end) in
     let g = λ (input : ℕ). is_named d entries output tick input && is_some (block_of d items input tick) in
     map_twice is_some f (range_with_len 0 (length (filed d items end))) ∙ ap (λ (n : ℕ). map (λ input. is_some (f input)) (range_with_len 0 n)) (length-filed d items end)
-    ∙ range_same (λ input. is_some (f input)) g (length d.inputs) (λ input within. flag_is d items entries output tick end input lt some within)
+    ∙ range_same (λ input. is_some (f input)) g (length d.inputs) (λ input within. flag_is d items entries output tick end input plain lt some within)
 
 -- ---- samples
 
-input_is : (d : DeviceParts) (items : List Item) (entries : List Entry) (output tick end frame input channel : ℕ) (i : Input) → AreFiled d (filed d items end) → tick * d.rate.frames < end → 1 ≤ d.rate.frames → frame < d.rate.frames
+input_is : (d : DeviceParts) (items : List Item) (entries : List Entry) (output tick end frame input channel : ℕ) (i : Input) → All (IsPlainItem d) items → AreFiled d (filed d items end) → tick * d.rate.frames < end → 1 ≤ d.rate.frames → frame < d.rate.frames
     → slice_get d.inputs input ≡ Some i → channel < length i.labels → input < length d.inputs
     → placed_sample d.inputs (tick_blocks d (filed d items end) (row_at entries output tick 0) tick) frame (From input channel) ≡ cell_sample d (block_of d items) (flags_of d entries (block_of d items) output tick) tick frame (From input channel)
-input_is d items entries output tick end frame input channel i all lt some f is c within =
+input_is d items entries output tick end frame input channel i plain all lt some f is c within =
     let row = row_at entries output tick 0 in
     let stamp = tick * d.rate.frames in
     let blocks = tick_blocks d (filed d items end) row tick in
@@ -185,7 +188,7 @@ input_is d items entries output tick end frame input channel i all lt some f is 
     subst (λ (o : Option (List ℕ)). IfSome o (IsBlock d.rate i)) (found_over_all d items end row stamp input lt within)
     (found_fits d.rate i row stamp input (get_or (filed d items end) input []) (subst (λ (x : Input). All (IsBlock d.rate x) (get_or (filed d items end) input [])) own fit.1)) in
     let decoded : Option (List ℤ) = option_map (λ packet. samples_of i.width (plain_payload_of packet)) found in
-    let here : block_of d items input tick ≡ decoded = block_is d items input tick i is in
+    let here : block_of d items input tick ≡ decoded = block_is d items input tick i plain is in
     let flag : get_or (flags_of d entries (block_of d items) output tick) input false ≡ (named && is_some decoded) =
     get_or-map-range_with_len (λ input. is_named d entries output tick input && is_some (block_of d items input tick)) 0 (length d.inputs) input input false within (zero-add input)
     ∙ ap (λ (b : Bool). b && is_some (block_of d items input tick)) (named_is d entries output tick input some) ∙ ap (λ (o : Option (List ℤ)). named && is_some o) here in
@@ -196,47 +199,47 @@ input_is d items entries output tick end frame input channel i all lt some f is 
     ∙ ap (λ (o : Option Input). sample_in (cond (named && is_some decoded) decoded None) (frame * option_map_or (λ i. length i.labels) o 0 + channel)) is in
     left ∙ sample_of_found d.rate i named found frame channel block f c ∙ sym right
 
-cell_is : (d : DeviceParts) (items : List Item) (entries : List Entry) (output tick end frame : ℕ) (cell : Cell) → AreFiled d (filed d items end) → tick * d.rate.frames < end → 1 ≤ d.rate.frames → frame < d.rate.frames → NamesChannel d.inputs cell
+cell_is : (d : DeviceParts) (items : List Item) (entries : List Entry) (output tick end frame : ℕ) (cell : Cell) → All (IsPlainItem d) items → AreFiled d (filed d items end) → tick * d.rate.frames < end → 1 ≤ d.rate.frames → frame < d.rate.frames → NamesChannel d.inputs cell
     → placed_sample d.inputs (tick_blocks d (filed d items end) (row_at entries output tick 0) tick) frame cell ≡ cell_sample d (block_of d items) (flags_of d entries (block_of d items) output tick) tick frame cell
-cell_is d items entries output tick end frame Unrouted all lt some f names = refl
-cell_is d items entries output tick end frame (From input channel) all lt some f names =
+cell_is d items entries output tick end frame Unrouted plain all lt some f names = refl
+cell_is d items entries output tick end frame (From input channel) plain all lt some f names =
     let i = some_and (slice_get d.inputs input) (λ x. channel < length x.labels) names in
-    input_is d items entries output tick end frame input channel i.0 all lt some f i.1 i.2 (named_within d.inputs input (λ x. channel < length x.labels) names)
+    input_is d items entries output tick end frame input channel i.0 plain all lt some f i.1 i.2 (named_within d.inputs input (λ x. channel < length x.labels) names)
 
-pub samples_are : (d : DeviceParts) (items : List Item) (entries : List Entry) (output tick end : ℕ) → AreFiled d (filed d items end) → tick * d.rate.frames < end → 1 ≤ d.rate.frames → All (NamesChannel d.inputs) (row_at entries output tick 0)
+pub samples_are : (d : DeviceParts) (items : List Item) (entries : List Entry) (output tick end : ℕ) → All (IsPlainItem d) items → AreFiled d (filed d items end) → tick * d.rate.frames < end → 1 ≤ d.rate.frames → All (NamesChannel d.inputs) (row_at entries output tick 0)
     → placed_samples d.inputs (tick_blocks d (filed d items end) (row_at entries output tick 0) tick) (row_at entries output tick 0) d.rate.frames ≡ packet_samples d entries (block_of d items) (flags_of d entries (block_of d items) output tick) output tick
-samples_are d items entries output tick end all lt some names =
+samples_are d items entries output tick end plain all lt some names =
     let row = row_at entries output tick 0 in
     let blocks = tick_blocks d (filed d items end) row tick in
     let flags = flags_of d entries (block_of d items) output tick in
     frames_same_from (placed_frame d.inputs blocks row) (frame_samples d entries (block_of d items) flags output tick) 0 d.rate.frames
     (λ frame from to. row_same (placed_sample d.inputs blocks frame) (cell_sample d (block_of d items) flags tick frame) (NamesChannel d.inputs) row
-    (λ cell there. cell_is d items entries output tick end frame cell all lt some (omega (arith, to)) there) (recursion_from_All (NamesChannel d.inputs) row names))
+    (λ cell there. cell_is d items entries output tick end frame cell plain all lt some (omega (arith, to)) there) (recursion_from_All (NamesChannel d.inputs) row names))
 
 -- ---- claims
 
-claim_by : (s : SetupParts) (items : List Item) (journal : List JournalCall) (end k : ℕ) → AreFiled s.device (filed s.device items end) → claim_tick s.device.base (length s.device.outputs) k * s.device.rate.frames < end → 1 ≤ s.device.rate.frames
+claim_by : (s : SetupParts) (items : List Item) (journal : List JournalCall) (end k : ℕ) → All (IsPlainItem s.device) items → AreFiled s.device (filed s.device items end) → claim_tick s.device.base (length s.device.outputs) k * s.device.rate.frames < end → 1 ≤ s.device.rate.frames
     → All (NamesChannel s.device.inputs) (row_at (entries_of s journal) (claim_output (length s.device.outputs) k) (claim_tick s.device.base (length s.device.outputs) k) 0)
     → filed_claim s (entries_of s journal) (filed s.device items end) k ≡ claim_of s journal (block_of s.device items) k
 unfolding filed_claim claim_of packet_of
-claim_by s items journal end k all lt some names =
+claim_by s items journal end k plain all lt some names =
     let d = s.device in
     let n = length d.outputs in
     let output = claim_output n k in
     let tick = claim_tick d.base n k in
     let entries = entries_of s journal in
-    let flags = flags_are d items entries output tick end lt some in
-    let samples = samples_are d items entries output tick end all lt some names in
+    let flags = flags_are d items entries output tick end plain lt some in
+    let samples = samples_are d items entries output tick end plain all lt some names in
     rw (flags, samples) refl
 
 named_of : (d : DeviceParts) (output : ℕ) (r : Option (List Cell)) → ((row : List Cell) → r ≡ Some row → RowAt d output row) → All (NamesChannel d.inputs) (unwrap_or r [])
 named_of d output None at = λ k x lt. absurd (omega arith)
 named_of d output (Some row) at = (some_and (slice_get d.outputs output) (λ o. HasRow d.inputs o row) (at row refl)).2.1
 
-pub claim_is : (s : SetupParts) (items : List Item) (journal : List JournalCall) (end k : ℕ) → AreEntries s.device (entries_of s journal) → AreFiled s.device (filed s.device items end)
+pub claim_is : (s : SetupParts) (items : List Item) (journal : List JournalCall) (end k : ℕ) → AreEntries s.device (entries_of s journal) → All (IsPlainItem s.device) items → AreFiled s.device (filed s.device items end)
     → claim_tick s.device.base (length s.device.outputs) k * s.device.rate.frames < end → 1 ≤ s.device.rate.frames → filed_claim s (entries_of s journal) (filed s.device items end) k ≡ claim_of s journal (block_of s.device items) k
-claim_is s items journal end k are all lt some =
+claim_is s items journal end k are plain all lt some =
     let output = claim_output (length s.device.outputs) k in
     let tick = claim_tick s.device.base (length s.device.outputs) k in
-    claim_by s items journal end k all lt some
+    claim_by s items journal end k plain all lt some
     (named_of s.device output (selected (entries_of s journal) output tick) (λ row is. selected_fits s.device (entries_of s journal) output tick row are.fit is))

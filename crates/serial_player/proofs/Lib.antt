@@ -5,6 +5,7 @@ pub mod Payloads
 pub mod Fits
 pub mod Runs
 pub mod Found
+pub mod PlainPackets
 pub mod Claims
 pub mod Captures
 pub mod Wholes

@@ -5,8 +5,7 @@ ghost use Rattle.std.specs.List.{filter_map, find, list_any, range_with_len};
 ghost use Rattle.capture_file.specs.CaptureReading.{HasHead};
 ghost use Rattle.capture_file.specs.Packets.{timestamp_of};
 ghost use Rattle.capture_file.specs.declared.limits.TheConstants.{HEAD_BYTES};
-ghost use Rattle.serial_player.specs.Blocks.{has_timestamp};
-ghost use Rattle.serial_player.specs.Filed.{filed_at, filed_of, filed_inputs, found_in, found_blocks};
+ghost use Rattle.serial_player.specs.Filed.{filed_at, filed_of, filed_inputs, found_in, found_blocks, has_timestamp};
 ghost use Rattle.serial_player.specs.Packet.{names};
 
 use byteorder::{BigEndian, ByteOrder};
