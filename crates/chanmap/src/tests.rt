@@ -342,7 +342,7 @@ fn spliced(
 }
 
 /// Changes of the capture of silence. Its device stands at 8, the claims at 65, and the end at 74.
-const DEVICE_CHANGES: [(usize, usize, &str); 31] = [
+const DEVICE_CHANGES: [(usize, usize, &str); 33] = [
     // the magic
     (7, 8, "0b"),
     (0, 79, ""),
@@ -374,9 +374,22 @@ const DEVICE_CHANGES: [(usize, usize, &str); 31] = [
         65,
         "00000018 0000bb80 0002 0000000000000000 01 01 00 01 61 02 10 60 01 01",
     ),
-    // an id with a space, and one id twice
+    // an id with a space, one id twice, and ids of no byte and of 33
     (31, 32, "20"),
     (52, 53, "78"),
+    (
+        9,
+        65,
+        "00000033 0000bb80 0002 0000000000000000 01 01 02 00 02 10 60 01 01
+            01 78 02 10 60 00000001 ff ff00 ff00 01 79 02 18 61 00000002 ff ff00 ff00",
+    ),
+    (
+        9,
+        65,
+        "00000054 0000bb80 0002 0000000000000000 01 01 02
+            21 616161616161616161616161616161616161616161616161616161616161616161 02 10 60 01 01
+            01 78 02 10 60 00000001 ff ff00 ff00 01 79 02 18 61 00000002 ff ff00 ff00",
+    ),
     // an input's channels, bits, payload type, block size and reordering
     (32, 33, "00"),
     (33, 34, "18"),
@@ -470,6 +483,71 @@ fn refuse_all(
         let input = spliced(alloc, &whole, *from, *to, digits)?;
         let ran = run(alloc, &["serial"], input, NO_FAULT)?;
         expect(rt, &ran, 5, &[], "refused: not-yet\n");
+    }
+    Ok(())
+}
+
+/// The id of an input or output: a digit or a capital letter.
+fn id_byte(number: u8) -> u8 {
+    match number {
+        0..=9 => b'0' + number,
+        _ => b'A' + number.min(35) - 10,
+    }
+}
+
+/// Inputs, or outputs with unrouted rows: how many, and their channels.
+type Ports = (u8, u8);
+
+/// The body of a plain device record in L16, with so many frames a tick.
+fn device_body(alloc: Global, frames: u8, inputs: Ports, outputs: Ports) -> Result<Vec<u8>, Fail> {
+    let mut made = hex(alloc, "0000bb80 00")?;
+    made.push(frames)?;
+    push_hex(&mut made, "0000000000000000 01")?;
+    made.push(inputs.0)?;
+    made.push(outputs.0)?;
+    for input in 0..inputs.0 {
+        made.extend_from_slice(&[1, id_byte(input), inputs.1, 16, 96, 1, 1])?;
+    }
+    for output in 0..outputs.0 {
+        made.extend_from_slice(&[1, id_byte(output), outputs.1, 16, 96, 0, 0, 0, 1, 255])?;
+        for _ in 0..outputs.1 {
+            made.extend_from_slice(&[255, 0])?;
+        }
+    }
+    Ok(made)
+}
+
+/// A capture of this device and no work.
+fn device_alone(alloc: Global, frames: u8, inputs: Ports, outputs: Ports) -> Result<Vec<u8>, Fail> {
+    let body = device_body(alloc, frames, inputs, outputs)?;
+    let mut made = hex(alloc, "43484d434150310a 44 0000")?;
+    let length = u16::try_from(body.len()).ok().ok_or("a long body")?;
+    made.extend_from_slice(&length.to_be_bytes())?;
+    made.extend_from_slice(&body)?;
+    push_hex(&mut made, "45 00000000")?;
+    Ok(made)
+}
+
+#[test]
+fn limits_of_a_device(rt: HostRuntime) -> Result<(), Fail> {
+    let alloc = rt.alloc();
+    for (frames, inputs, outputs, status) in [
+        // the most inputs, outputs, channels of all inputs, channels of one, frames, and bytes of a packet's samples
+        (2, (16, 8), (32, 2), 0),
+        (2, (2, 64), (1, 64), 0),
+        (240, (0, 1), (1, 3), 0),
+        // one more of each
+        (2, (17, 1), (1, 1), 5),
+        (2, (1, 1), (33, 1), 5),
+        (2, (3, 43), (1, 1), 5),
+        (2, (1, 65), (1, 1), 5),
+        (2, (1, 1), (1, 65), 5),
+        (241, (1, 1), (1, 1), 5),
+        (240, (1, 1), (1, 4), 5),
+    ] {
+        let input = device_alone(alloc, frames, inputs, outputs)?;
+        let ran = run(alloc, &["serial"], input, NO_FAULT)?;
+        assert_eq!(rt; ran.status, status);
     }
     Ok(())
 }
