@@ -1,12 +1,13 @@
 -- Rows that fit a device.
-use Rattle.std.proofs.Common.{◌≡◌, ℕ, zero, suc, ◌≤◌, List, [], ◌∷◌, length, Some, subst, arith}
+use Rattle.std.proofs.Common.{◌≡◌, ℕ, zero, suc, ◌<◌, ◌≤◌, List, [], ◌∷◌, length, get_or, Some, sym, subst, arith}
 use Rattle.std.specs.Prelude.{IsSomeAnd, slice_get, All}
-use Rattle.std.specs.List.{AllZip}
+use Rattle.std.specs.List.{AllZip, AllWithin}
 use Rattle.std.proofs.lemmas.Slice.Zip.{AllZip-long}
 use Rattle.std.proofs.lemmas.Option.{slice_get_within, get_or_from_slice_get}
-use Rattle.std.proofs.lemmas.List.Elements.{All-get_or, All-nil, All-cons, All-head, All-tail}
+use Rattle.std.proofs.lemmas.List.Elements.{at_read, All-get_or, All-nil, All-cons, All-head, All-tail}
 use Rattle.io_caps.specs.declared.limits.TheConstants.{MOST_CHANNELS}
 use Rattle.io_caps.specs.Port.{AreChannels}
+use Rattle.io_caps.specs.Fault.{IsFirstOut}
 use Rattle.io_caps.specs.declared.port.Output.{Output}
 use Rattle.map_entry.specs.declared.cell.Cell.{Cell}
 use Rattle.map_entry.specs.Setup.{SetupParts, IsSetup, HasCells}
@@ -35,3 +36,13 @@ rows_short (o ∷ outputs) (r ∷ rows) fits most =
     let head : AreChannels o.labels = All-head (λ (x : Output). AreChannels x.labels) o outputs most in
     let long : length r ≡ length o.labels = fits.0 in
     All-cons (λ (row : List Cell). length row ≤ MOST_CHANNELS) r rows (omega (arith, long, head.1)) (rows_short outputs rows fits.1 (All-tail (λ (x : Output). AreChannels x.labels) o outputs most))
+
+-- an item that has not the property is the first, where all before it have it
+pub IsFirstOut-read : {X : Type 0} (P : X → Type 0) (xs : List X) (k : ℕ) (x : X) → k < length xs → x ≡ get_or xs k x → AllWithin P xs 0 k → (P x → ⊥) → IsFirstOut P xs (Some k)
+IsFirstOut-read P xs k x within is before out = record {
+  all = tt;
+  within = within;
+  some = λ all. out (subst P (sym is) (All-get_or P xs k x within all));
+  out = at_read xs (λ y. P y → ⊥) k x within is out;
+  before = before;
+}

@@ -1,11 +1,14 @@
 -- When base rows fit a device. (This project's own.)
-use Rattle.std.specs.Prelude.{◌≡◌, ◌<◌, List, length, All, IsSomeAnd, slice_get}
+use Rattle.std.specs.Prelude.{◌≡◌, ◌<◌, List, length, All, Some, IsSomeAnd, slice_get}
 use Rattle.std.specs.List.{AllZip}
 use Rattle.io_caps.specs.Device.{IsDevice}
+use Rattle.io_caps.specs.Fault.{IsFirstOut}
 use Rattle.io_caps.specs.declared.port.Input.{Input}
 use Rattle.io_caps.specs.declared.port.Output.{Output}
 use Rattle.io_caps.specs.declared.device.DeviceParts.{DeviceParts}
 use Rattle.map_entry.specs.declared.cell.Cell.{Cell}
+use Rattle.map_entry.specs.declared.fault.RowFault.{RowFault}
+use Rattle.map_entry.specs.declared.fault.RowFault.TheVariants.{Input as NoInput, Channel as NoChannel, NotRoutable, Block, Order}
 use Rattle.map_entry.specs.declared.fault.SetupFault.{SetupFault}
 use Rattle.map_entry.specs.declared.fault.SetupFault.TheVariants.{Count, BaseRow}
 use Rattle.map_entry.specs.declared.cell.Cell.TheVariants.{Unrouted, From}
@@ -38,8 +41,20 @@ pub record IsSetup (setup : SetupParts) : Type 0 where
   pub count : AllZip HasCells setup.device.outputs setup.rows
   pub cells : All (All (NamesChannel setup.device.inputs)) setup.rows
 
--- what a fault says of a device and rows: not a row for each output with a cell for each channel; or such rows, and one of them
--- names what isn't there
+-- the first check that the row fails: the lowest channel that names an input that isn't there, or else the lowest that names a
+-- channel that isn't; the other checks aren't made yet
+abbrev pub IsRowFault : List Input → List Cell → RowFault → Type 0
+IsRowFault inputs row (NoInput channel) = IsFirstOut (NamesInput inputs) row (Some channel)
+IsRowFault inputs row (NoChannel channel) = All (NamesInput inputs) row × IsFirstOut (NamesChannel inputs) row (Some channel)
+IsRowFault inputs row (NotRoutable channel) = ⊥
+IsRowFault inputs row (Block channel) = ⊥
+IsRowFault inputs row (Order channel) = ⊥
+
+-- what a fault says of a device and rows: not a row for each output with a cell for each channel; or such rows, and the first
+-- that names what isn't there is this output's and has this fault
 abbrev pub IsBrokenBy : SetupParts → SetupFault → Type 0
 IsBrokenBy setup Count = AllZip HasCells setup.device.outputs setup.rows → ⊥
-IsBrokenBy setup (BaseRow output fault) = AllZip HasCells setup.device.outputs setup.rows × (All (All (NamesChannel setup.device.inputs)) setup.rows → ⊥)
+IsBrokenBy setup (BaseRow output fault) =
+    AllZip HasCells setup.device.outputs setup.rows
+    × IsFirstOut (All (NamesChannel setup.device.inputs)) setup.rows (Some output)
+    × IsSomeAnd (slice_get setup.rows output) (λ row. IsRowFault setup.device.inputs row fault)

@@ -7,9 +7,9 @@ use io_caps::{NoMemory, TryCopy};
 pub enum RowFault {
     /// The lowest channel that names an input that isn't there.
     Input(u8),
-    /// The lowest channel that names a channel of an input that isn't there.
+    /// All inputs that are named are there: the lowest channel that names a channel that isn't there.
     Channel(u8),
-    /// The lowest channel that may not be routed so.
+    /// The lowest channel that may not be routed so. Not answered yet, nor are the two below.
     NotRoutable(u8),
     /// The lowest first channel of a piece that is no whole block.
     Block(u8),
@@ -28,7 +28,7 @@ impl TryCopy for RowFault {
 pub enum SetupFault {
     /// Not a row for each output with a cell for each of its channels.
     Count,
-    /// The lowest output whose row is at fault.
+    /// There is such a row for each output: the lowest whose row names what isn't there, and the first check that it fails.
     BaseRow { output: u8, fault: RowFault },
 }
 

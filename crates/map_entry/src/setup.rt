@@ -1,9 +1,10 @@
 //! A device with its base rows.
 
-ghost use Rattle.std.specs.Prelude.{◌≡◌, ◌≤◌, ◌↔◌, IsTrue, IfOk, IfErr, OnOk, OnErr, All, length};
+ghost use Rattle.std.specs.Prelude.{◌≡◌, ◌≤◌, ◌↔◌, IsTrue, IfOk, IfErr, OnOk, OnErr, All, Some, IsSomeAnd, slice_get, length};
 ghost use Rattle.std.specs.List.{AllZip};
 ghost use Rattle.io_caps.specs.declared.limits.TheConstants.{MOST_CHANNELS, MOST_OUTPUTS};
-ghost use Rattle.map_entry.specs.Setup.{IsSetup, IsBrokenBy, HasCells, NamesChannel, setup_of};
+ghost use Rattle.map_entry.specs.Setup.{IsSetup, IsBrokenBy, IsRowFault, HasCells, NamesInput, NamesChannel, setup_of};
+ghost use Rattle.io_caps.specs.Fault.{IsFirstOut};
 ghost use Rattle.io_caps.specs.Memory.{IsFaultAnd};
 
 use crate::{Cell, Row, RowFault, Rows, SetupFault};
@@ -30,8 +31,8 @@ impl Model for Setup {
 
 impl Setup {
     /// The device with these base rows. It is refused by a fault exactly where they don't fit the device: `Count`, or
-    /// `BaseRow` with `Input` or `Channel` (the row checks for blocks, order and routable lists aren't made yet). A refusal
-    /// drops both. No memory is taken.
+    /// `BaseRow` with the lowest output at fault and the first check that its row fails, `Input` or `Channel` (the row checks
+    /// for blocks, order and routable lists aren't made yet). A refusal drops both. No memory is taken.
     pub fn build(_alloc: Global, device: Device, rows: Rows) -> Result<Setup, Or<SetupFault>>
         ensures ok { IfOk result (λ setup. setup ≡ setup_of device rows) }
         ensures within { OnOk result (IsSetup (setup_of device rows)) }
@@ -60,12 +61,14 @@ fn have_cells(outputs: &[Output], rows: &[Row]) -> bool
     }
 }
 
-/// The first row that names what isn't there, by its output, with its fault.
+/// The lowest output whose row names what isn't there, with the first check that this row fails.
 fn check_rows(inputs: &[Input], rows: &[Row]) -> Result<(), (u8, RowFault)>
     requires few { length rows.now ≤ MOST_OUTPUTS }
     requires short { All (λ row. length row ≤ MOST_CHANNELS) rows.now }
     ensures ok { OnOk result (All (All (NamesChannel inputs.now)) rows.now) }
     ensures fault { OnErr result (All (All (NamesChannel inputs.now)) rows.now → ⊥) }
+    ensures output { IfErr result (λ e. IsFirstOut (All (NamesChannel inputs.now)) rows.now (Some e.0)) }
+    ensures row { IfErr result (λ e. IsSomeAnd (slice_get rows.now e.0) (λ row. IsRowFault inputs.now row e.1)) }
 {
     for output in 0..rows.len() {
         if let Err(fault) = check_cells(inputs, rows[output].as_slice()) {
@@ -75,19 +78,34 @@ fn check_rows(inputs: &[Input], rows: &[Row]) -> Result<(), (u8, RowFault)>
     Ok(())
 }
 
-/// The fault of the first cell that names an input that isn't there, or else of the first that names a channel that isn't.
+/// The first check that a row fails. All inputs are looked at before any channel.
 fn check_cells(inputs: &[Input], row: &[Cell]) -> Result<(), RowFault>
     requires { length row.now ≤ MOST_CHANNELS }
     ensures ok { OnOk result (All (NamesChannel inputs.now) row.now) }
     ensures fault { OnErr result (All (NamesChannel inputs.now) row.now → ⊥) }
+    ensures first { IfErr result (IsRowFault inputs.now row.now) }
 {
-    if let Some(channel) = row.iter().position(|cell| !cell.names_input(inputs)) {
+    if let Some(channel) = bad_input(inputs, row) {
         return Err(RowFault::Input(channel as u8));
     }
-    if let Some(channel) = row.iter().position(|cell| !cell.names_channel(inputs)) {
+    if let Some(channel) = bad_channel(inputs, row) {
         return Err(RowFault::Channel(channel as u8));
     }
     Ok(())
+}
+
+/// The lowest channel that names an input that isn't there.
+fn bad_input(inputs: &[Input], row: &[Cell]) -> Option<usize>
+    ensures { IsFirstOut (NamesInput inputs.now) row.now result }
+{
+    row.iter().position(|cell| !cell.names_input(inputs))
+}
+
+/// The lowest channel that names a channel that isn't there.
+fn bad_channel(inputs: &[Input], row: &[Cell]) -> Option<usize>
+    ensures { IsFirstOut (NamesChannel inputs.now) row.now result }
+{
+    row.iter().position(|cell| !cell.names_channel(inputs))
 }
 
 impl TryCopy for Setup {

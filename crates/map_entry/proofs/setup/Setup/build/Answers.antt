@@ -14,3 +14,10 @@ pub check_rows-requires-clause-short : goal.check_rows-requires-clause-short
 check_rows-requires-clause-short c =
     let fit = rw (c.output_slice.ensures.value, c.as_slice.ensures) at (c.have_cells.ensures.0 c.if-not-have_cells.false) in
     rw c.as_slice-2.ensures (rows_short c.args.device.outputs c.args.rows fit c.output_slice.ensures.valid.streams.outputs)
+
+pub returns-in-Err-clause-named : goal.returns-in-Err-clause-named
+returns-in-Err-clause-named c =
+    let fit = rw (c.output_slice.ensures.value, c.as_slice.ensures) at (c.have_cells.ensures.0 c.if-not-have_cells.false) in
+    let output = rw (c.input_slice.ensures.value, c.as_slice-2.ensures) at c.in-Err.ensures.output in
+    let row = rw (c.input_slice.ensures.value, c.as_slice-2.ensures) at c.in-Err.ensures.row in
+    (fit, output, row)
