@@ -7,4 +7,5 @@ pub mod RecordLaws
 pub mod RecordLoop
 pub mod ResultText
 pub mod Rising
+pub mod Shown
 pub mod Whole

@@ -60,9 +60,9 @@ range_more a (suc n) =
     let e : a + 1 + n ≡ a + suc n = omega arith in
     ap (λ (xs : List ℕ). a ∷ xs) (range_more (a + 1) n ∙ ap (λ (k : ℕ). range_with_len (a + 1) n ++ k ∷ []) e)
 
-pub more_claims : (text : ℕ → List ℕ) (n : ℕ) → flat_map text (range_with_len 0 (n + 1)) ≡ flat_map text (range_with_len 0 n) ++ text n
-more_claims text n =
+pub more_claims : {X : Type 0} (of : ℕ → List X) (n : ℕ) → flat_map of (range_with_len 0 (n + 1)) ≡ flat_map of (range_with_len 0 n) ++ of n
+more_claims of n =
     let e : n + 1 ≡ suc n = omega arith in
     let z : 0 + n ≡ n = omega arith in
     let r : range_with_len 0 (n + 1) ≡ range_with_len 0 n ++ n ∷ [] = rw e (rw z at (range_more 0 n)) in
-    ap (flat_map text) r ∙ flat_map-append text (range_with_len 0 n) (n ∷ []) ∙ ap (λ (z : List ℕ). flat_map text (range_with_len 0 n) ++ z) (flat_map-cons text n [] ∙ append-nil (text n))
+    ap (flat_map of) r ∙ flat_map-append of (range_with_len 0 n) (n ∷ []) ∙ ap (λ xs. flat_map of (range_with_len 0 n) ++ xs) (flat_map-cons of n [] ∙ append-nil (of n))

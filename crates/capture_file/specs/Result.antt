@@ -50,12 +50,21 @@ reply_text r = record_text REPLY (reply_body r)
 
 -- ---- the whole
 
--- The calls that were accepted at a number of claims, the replies that were given there, and the claim of that number, where
--- there is one.
+-- the calls that were accepted at a number of claims
+abbrev pub calls_at : List JournalCall → ℕ → List JournalCall
+calls_at journal claims = filter (λ c. c.at == claims) journal
+
+-- the replies that were given at a number of claims
+abbrev pub replies_at : List ReplyItem → ℕ → List ReplyItem
+replies_at replies claims = filter (λ r. r.stamp.claims == claims) replies
+
+-- the claim of a number, where there is one
+abbrev pub claims_at : List ClaimItem → ℕ → List ClaimItem
+claims_at all number = option_map_or (λ c. c ∷ []) (slice_get all number) []
+
+-- the calls and the replies at a number of claims, and the claim of that number
 unfoldable pub records_at : History → ℕ → List ℕ
-records_at h claims =
-    flat_map call_text (filter (λ c. c.at == claims) h.journal)
-    ++ (flat_map reply_text (filter (λ r. r.stamp.claims == claims) h.replies) ++ option_map_or claim_text (slice_get h.claims claims) [])
+records_at h claims = flat_map call_text (calls_at h.journal claims) ++ (flat_map reply_text (replies_at h.replies claims) ++ flat_map claim_text (claims_at h.claims claims))
 
 -- the first bytes of a result
 abbrev pub result_magic : List ℕ
@@ -95,6 +104,13 @@ pub record IsWhole (h : History) : Type 0 where
   pub calls_within : All (λ c. c.at ≤ length h.claims) h.journal
   pub replies : AllPairs IsNoLater h.replies
   pub replies_within : All (λ r. r.stamp.claims ≤ length h.claims) h.replies
+
+-- Nothing of a history is left out of its result: its numbers of claims have all its calls, all its replies and all its claims,
+-- each once and in order.
+pub record ShowsAll (h : History) : Type 0 where
+  pub calls : flat_map (calls_at h.journal) (range_with_len 0 (length h.claims + 1)) ≡ h.journal
+  pub replies : flat_map (replies_at h.replies) (range_with_len 0 (length h.claims + 1)) ≡ h.replies
+  pub claims : flat_map (claims_at h.claims) (range_with_len 0 (length h.claims + 1)) ≡ h.claims
 
 -- a whole history of this device, each record of which fits the fields of a result
 pub record FitsHistory (d : DeviceParts) (h : History) : Type 0 where

@@ -1,12 +1,11 @@
 //! How a history is written as a result.
 
-ghost use Rattle.std.specs.Prelude.{◌≡◌, ◌++◌, ◌==◌, ◌∷◌, [], ◌<◌, ◌+◌, ◌^◌, length, map, All, IfOk, OnOk, slice_get};
-ghost use Rattle.std.specs.List.{filter, flat_map};
-ghost use Rattle.std.specs.Option.{option_map_or};
+ghost use Rattle.std.specs.Prelude.{◌≡◌, ◌++◌, ◌∷◌, [], ◌<◌, ◌+◌, ◌^◌, length, map, All, IfOk, OnOk};
+ghost use Rattle.std.specs.List.{flat_map};
 ghost use Rattle.exact_text.specs.Spellings.{Grows};
 ghost use Rattle.capture_file.specs.Device.{cell_text, flag_byte};
 ghost use Rattle.capture_file.specs.Records.{action_text, change_text, output_change_text, request_text, FitsOutputChange, FitsAction, FitsRequest};
-ghost use Rattle.capture_file.specs.Result.{call_body, call_text, claim_text, plain_reply_text, reply_body, reply_text, result_text, said_text, records_at, FitsCall, FitsHistory, IsShortClaim};
+ghost use Rattle.capture_file.specs.Result.{call_body, call_text, calls_at, claim_text, claims_at, plain_reply_text, records_at, replies_at, reply_body, reply_text, result_text, said_text, FitsCall, FitsHistory, IsShortClaim, ShowsAll};
 
 use crate::{ClaimItem, History, JournalCall, Reply, ReplyItem, Request, Said, When, tags};
 use exact_text::{push_record, push32, push64};
@@ -196,7 +195,7 @@ fn push_call_at(
     claims: u64,
 ) -> Result<(), NoMemory>
     requires { FitsCall call.now }
-    ensures ok { OnOk result (out.new.items ≡ out.old.items ++ flat_map call_text (filter (λ c. c.at == claims) (call.now ∷ []))) }
+    ensures ok { OnOk result (out.new.items ≡ out.old.items ++ flat_map call_text (calls_at (call.now ∷ []) claims)) }
     ensures grows { Grows out.old.items out.new.items }
 {
     if call.at == claims {
@@ -213,7 +212,7 @@ fn push_calls_at(
     claims: u64,
 ) -> Result<(), NoMemory>
     requires { All FitsCall journal.now }
-    ensures ok { OnOk result (out.new.items ≡ out.old.items ++ flat_map call_text (filter (λ c. c.at == claims) journal.now)) }
+    ensures ok { OnOk result (out.new.items ≡ out.old.items ++ flat_map call_text (calls_at journal.now claims)) }
     ensures grows { Grows out.old.items out.new.items }
 {
     for call in journal {
@@ -230,7 +229,7 @@ fn push_reply_at(
     reply: &ReplyItem,
     claims: u64,
 ) -> Result<(), NoMemory>
-    ensures ok { OnOk result (out.new.items ≡ out.old.items ++ flat_map reply_text (filter (λ r. r.stamp.claims == claims) (reply.now ∷ []))) }
+    ensures ok { OnOk result (out.new.items ≡ out.old.items ++ flat_map reply_text (replies_at (reply.now ∷ []) claims)) }
     ensures grows { Grows out.old.items out.new.items }
 {
     if reply.stamp.claims == claims {
@@ -246,7 +245,7 @@ fn push_replies_at(
     replies: &[ReplyItem],
     claims: u64,
 ) -> Result<(), NoMemory>
-    ensures ok { OnOk result (out.new.items ≡ out.old.items ++ flat_map reply_text (filter (λ r. r.stamp.claims == claims) replies.now)) }
+    ensures ok { OnOk result (out.new.items ≡ out.old.items ++ flat_map reply_text (replies_at replies.now claims)) }
     ensures grows { Grows out.old.items out.new.items }
 {
     for reply in replies {
@@ -259,7 +258,7 @@ fn push_replies_at(
 #[tactic(auto, using(exact_text::proofs::Growth::growth))]
 fn push_claim_at(out: &mut Vec<u8>, claims: &[ClaimItem], at: usize) -> Result<(), NoMemory>
     requires { All IsShortClaim claims.now }
-    ensures ok { OnOk result (out.new.items ≡ out.old.items ++ option_map_or claim_text (slice_get claims.now at) []) }
+    ensures ok { OnOk result (out.new.items ≡ out.old.items ++ flat_map claim_text (claims_at claims.now at)) }
     ensures grows { Grows out.old.items out.new.items }
 {
     if at < claims.len() {
@@ -298,6 +297,8 @@ pub fn write_result(
 ) -> Result<(), NoMemory>
     requires { FitsHistory device.now history.now }
     ensures ok { OnOk result (out.new.items ≡ out.old.items ++ result_text history.now) }
+    // Nothing of the history is left out.
+    ensures shows { ShowsAll history.now }
     ensures grows { Grows out.old.items out.new.items }
 {
     let _ = device;
