@@ -1,4 +1,5 @@
-"""Tests of the built program from outside: its words, streams, statuses and lines.
+"""Tests of the built program from outside: its words, streams, statuses and lines, and its results beside those of
+tools/model.py.
 
 Run: python3 tools/test_program.py     (the program must be built: tools/demo)
 """
@@ -7,6 +8,7 @@ from __future__ import annotations
 
 import os
 import pathlib
+import random
 import resource
 import subprocess
 import sys
@@ -14,6 +16,9 @@ import tempfile
 import unittest
 
 sys.dont_write_bytecode = True
+sys.path.insert(0, str(pathlib.Path(__file__).resolve().parent))
+import model  # noqa: E402 (it stands beside this file)
+
 CRATE = pathlib.Path(__file__).resolve().parents[1] / "crates" / "chanmap"
 PROGRAM = CRATE / "out" / "chanmap"
 CAPTURE = (CRATE / "stdin").read_bytes()
@@ -124,6 +129,107 @@ class Memory(unittest.TestCase):
 
         self.assertEqual(run(["serial"], bytes(MOST), preexec_fn=limit), (12, b"", b"no memory\n"))
         self.assertEqual(run(["serial"], CAPTURE, preexec_fn=limit), (0, RESULT, b""))
+
+
+class Captures:
+    """Captures of the plain form, made at random."""
+
+    def __init__(self, seed: int) -> None:
+        self.random = random.Random(seed)
+        self.frames = self.random.choice([1, 2, 3, 48])
+        self.inputs = [self.random.randint(1, 3) for _ in range(self.random.randint(0, 3))]
+        self.outputs = [self.random.randint(1, 3) for _ in range(self.random.randint(1, 3))]
+
+    def cell(self) -> bytes:
+        if not self.inputs or self.random.random() < 0.3:
+            return b"\xff\0"
+        source = self.random.randrange(len(self.inputs))
+        return bytes([source, self.random.randrange(self.inputs[source])])
+
+    def device(self) -> bytes:
+        body = (48000).to_bytes(4, "big") + self.frames.to_bytes(2, "big") + bytes(8)
+        body += bytes([self.random.randint(0, 64), len(self.inputs), len(self.outputs)])
+        for number, channels in enumerate(self.inputs):
+            body += bytes([1, ord("a") + number, channels, 16, 96, 1, 1])
+        for number, channels in enumerate(self.outputs):
+            body += bytes([1, ord("x") + number, channels, self.random.choice([16, 24]), 97])
+            body += self.random.randbytes(4) + b"\xff" + b"".join(self.cell() for _ in range(channels))
+        return model.record(b"D", body)
+
+    def packet(self, source: int, tick: int) -> bytes:
+        head = b"\x80\x60" + self.random.randbytes(2) + (tick * self.frames).to_bytes(4, "big") + self.random.randbytes(4)
+        samples = self.random.randbytes(2 * self.frames * self.inputs[source])
+        return model.record(b"P", bytes([source]) + head + samples)
+
+    def activation(self) -> bytes:
+        outputs = sorted(self.random.sample(range(len(self.outputs)), self.random.randint(1, len(self.outputs))))
+        body = bytes([self.random.randrange(16), 0, len(outputs)])
+        for output in outputs:
+            count = self.random.randint(0, self.outputs[output])
+            channels = sorted(self.random.sample(range(self.outputs[output]), count))
+            body += bytes([output, count]) + b"".join(bytes([channel]) + self.cell() for channel in channels)
+        return model.record(b"A", body)
+
+    def records(self) -> list[bytes]:
+        """The records between the device and the last one."""
+        ticks = self.random.randint(0, 5)
+        claims = ticks * len(self.outputs)
+        records = [self.activation() for _ in range(self.random.randint(0, 4))]
+        while claims > 0:
+            part = self.random.randint(0, claims)
+            records.insert(self.random.randint(0, len(records)), model.record(b"T", part.to_bytes(4, "big")))
+            claims -= part
+        for source in range(len(self.inputs)):
+            places = sorted(self.random.randint(0, len(records)) for tick in range(ticks) if self.random.random() < 0.8)
+            for tick, place in reversed(list(enumerate(places))):
+                records.insert(place, self.packet(source, tick))
+        return records
+
+    def whole(self, records: list[bytes]) -> bytes:
+        return b"CHMCAP1\n" + self.device() + b"".join(records) + model.record(b"E", b"")
+
+    def damaged(self) -> bytes:
+        """A capture with a record twice, two records the other way round, or a byte changed, left out or put in."""
+        records = self.records()
+        if records and self.random.random() < 0.3:
+            records.insert(self.random.randint(0, len(records)), self.random.choice(records))
+            return self.whole(records)
+        if records and self.random.random() < 0.3:
+            one, other = self.random.randrange(len(records)), self.random.randrange(len(records))
+            records[one], records[other] = records[other], records[one]
+            return self.whole(records)
+        data = self.whole(records)
+        place = self.random.randrange(len(data))
+        byte = bytes([self.random.choice([0, 1, 2, 254, 255, data[place] ^ 1, self.random.randrange(256)])])
+        return data[:place] + self.random.choice([byte + data[place + 1 :], data[place + 1 :], byte + data[place:]])
+
+
+class Model(unittest.TestCase):
+    """The program and the model agree, on captures and on damaged ones."""
+
+    def check(self, data: bytes) -> bool:
+        try:
+            expected = (0, model.result(data), b"")
+        except model.Refused:
+            expected = (5, b"", REFUSED)
+        self.assertEqual(run(["serial"], data), expected, data.hex())
+        return expected[0] == 0
+
+    def test_the_stored_run(self) -> None:
+        self.assertEqual(model.result(CAPTURE), RESULT)
+
+    def test_captures_at_random(self) -> None:
+        for seed in range(400):
+            with self.subTest(seed=seed):
+                captures = Captures(seed)
+                self.assertTrue(self.check(captures.whole(captures.records())))
+
+    def test_damaged_captures(self) -> None:
+        read = 0
+        for seed in range(2000):
+            with self.subTest(seed=seed):
+                read += self.check(Captures(seed).damaged())
+        self.assertTrue(0 < read < 2000)
 
 
 if __name__ == "__main__":
