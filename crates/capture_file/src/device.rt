@@ -5,9 +5,9 @@ ghost use Rattle.exact_text.specs.Readings.{Gives};
 ghost use Rattle.capture_file.specs.Device.{numbered};
 ghost use Rattle.capture_file.specs.DeviceReading.{width_at, flag_at, input_at, cell_at, member_at, routable_at, target_at, outputs_of, rows_of, setup_at};
 
-use crate::fields::{Field, many};
+use crate::form::CaptureForm;
 use crate::tags::{ALL_ROUTABLE, BITS_16, BITS_24, UNROUTED_INPUT, UNROUTED_MEMBER};
-use exact_text::{Misread, byte, number16, number32, number64, slice};
+use exact_text::{Misread, Reads, byte, many, number16, number32, number64, slice};
 use io_caps::{
     Choices, DeviceParts, Input, Inputs, Labels, Output, Outputs, Parent, Rate, Routable, Text,
     Width,
@@ -63,7 +63,7 @@ fn numbered(alloc: Global, channels: u8) -> Result<Labels, Misread>
     Ok(Labels::from_vec(labels))
 }
 
-impl Field for Input {
+impl Reads<Input> for CaptureForm {
     ghost reading = { input_at };
 
     #[tactic(auto, unfolding(crate::specs::DeviceReading::input_at))]
@@ -90,7 +90,7 @@ impl Field for Input {
     }
 }
 
-impl Field for Cell {
+impl Reads<Cell> for CaptureForm {
     ghost reading = { cell_at };
 
     #[tactic(auto, unfolding(crate::specs::DeviceReading::cell_at))]
@@ -108,7 +108,7 @@ impl Field for Cell {
     }
 }
 
-impl Field for Option<u8> {
+impl Reads<Option<u8>> for CaptureForm {
     ghost reading = { member_at };
 
     #[tactic(auto, unfolding(crate::specs::DeviceReading::member_at))]
@@ -130,11 +130,11 @@ fn routable(alloc: Global, bytes: &[u8]) -> Result<(Routable, &[u8]), Misread>
     if count == ALL_ROUTABLE {
         return Ok((Routable::All, rest));
     }
-    let (members, rest) = many::<Option<u8>>(alloc, count as usize, rest)?;
+    let (members, rest) = many::<CaptureForm, Option<u8>>(alloc, count as usize, rest)?;
     Ok((Routable::Only(Choices::from_vec(members)), rest))
 }
 
-impl Field for Target {
+impl Reads<Target> for CaptureForm {
     ghost reading = { target_at };
 
     #[tactic(auto, unfolding(crate::specs::DeviceReading::target_at))]
@@ -146,7 +146,7 @@ impl Field for Target {
         let (payload_type, rest) = byte(rest)?;
         let (ssrc, rest) = number32(rest)?;
         let (routable, rest) = routable(alloc, rest)?;
-        let (row, rest) = many::<Cell>(alloc, channels as usize, rest)?;
+        let (row, rest) = many::<CaptureForm, Cell>(alloc, channels as usize, rest)?;
         let output = Output {
             id: copied(alloc, id)?,
             name: copied(alloc, id)?,
@@ -187,8 +187,8 @@ pub(crate) fn setup(alloc: Global, bytes: &[u8]) -> Result<((DeviceParts, Rows),
     let (hold, rest) = byte(rest)?;
     let (input_count, rest) = byte(rest)?;
     let (output_count, rest) = byte(rest)?;
-    let (inputs, rest) = many::<Input>(alloc, input_count as usize, rest)?;
-    let (targets, rest) = many::<Target>(alloc, output_count as usize, rest)?;
+    let (inputs, rest) = many::<CaptureForm, Input>(alloc, input_count as usize, rest)?;
+    let (targets, rest) = many::<CaptureForm, Target>(alloc, output_count as usize, rest)?;
     let (outputs, rows) = split(alloc, targets)?;
     let parts = DeviceParts {
         rate: Rate { hz, frames },

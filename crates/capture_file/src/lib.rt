@@ -5,7 +5,7 @@ mod assembly;
 mod capture;
 mod device;
 mod fault;
-mod fields;
+mod form;
 mod history;
 mod limits;
 mod plain;

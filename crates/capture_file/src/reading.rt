@@ -4,33 +4,33 @@ ghost use Rattle.std.specs.Prelude.{◌≡◌};
 ghost use Rattle.exact_text.specs.Readings.{Gives, whole_of};
 ghost use Rattle.capture_file.specs.RecordReading.{change_at, output_change_at, action_at, request_at, packet_item, ask_at, work_at, step_of, step_at, items_at};
 
-use crate::fields::{Field, many};
+use crate::form::CaptureForm;
 use crate::tags::{ACTIVATE_NOW, ASK, END, PACKET, WORK};
 use crate::{Item, Items, Request, When};
-use exact_text::{Misread, byte, expected, nothing_behind, number32, record};
+use exact_text::{Misread, Reads, byte, expected, many, nothing_behind, number32, record};
 use io_caps::{Bytes, ListOf};
 use map_entry::{Action, Cell, Change, Changes, OutputChange};
 use std::alloc::Global;
 
-impl Field for Change {
+impl Reads<Change> for CaptureForm {
     ghost reading = { change_at };
 
     #[tactic(auto, unfolding(crate::specs::RecordReading::change_at))]
     fn read(alloc: Global, bytes: &[u8]) -> Result<(Change, &[u8]), Misread> {
         let (channel, rest) = byte(bytes)?;
-        let (cell, rest) = Cell::read(alloc, rest)?;
+        let (cell, rest) = CaptureForm::read(alloc, rest)?;
         Ok((Change { channel, cell }, rest))
     }
 }
 
-impl Field for OutputChange {
+impl Reads<OutputChange> for CaptureForm {
     ghost reading = { output_change_at };
 
     #[tactic(auto, unfolding(crate::specs::RecordReading::output_change_at))]
     fn read(alloc: Global, bytes: &[u8]) -> Result<(OutputChange, &[u8]), Misread> {
         let (output, rest) = byte(bytes)?;
         let (count, rest) = byte(rest)?;
-        let (changes, rest) = many::<Change>(alloc, count as usize, rest)?;
+        let (changes, rest) = many::<CaptureForm, Change>(alloc, count as usize, rest)?;
         match OutputChange::build(output, Changes::from_vec(changes)) {
             Some(change) => Ok((change, rest)),
             None => Err(Misread::NoReading),
@@ -43,7 +43,7 @@ fn action(alloc: Global, bytes: &[u8]) -> Result<(Action, &[u8]), Misread>
     ensures { Gives (λ x. (x.0, x.1.now)) result (action_at bytes.now) }
 {
     let (count, rest) = byte(bytes)?;
-    let (changes, rest) = many::<OutputChange>(alloc, count as usize, rest)?;
+    let (changes, rest) = many::<CaptureForm, OutputChange>(alloc, count as usize, rest)?;
     match Action::build(ListOf::from_vec(changes)) {
         Some(action) => Ok((action, rest)),
         None => Err(Misread::NoReading),

@@ -1,4 +1,4 @@
-//! Values that are read from bytes, and lists of them.
+//! Ways to read values from bytes, and lists of them.
 
 ghost use Rattle.std.specs.Prelude.{List, ℕ, Option};
 ghost use Rattle.exact_text.specs.Readings.{Gives, byte_at, number_at, many_at};
@@ -6,17 +6,21 @@ ghost use Rattle.exact_text.specs.Readings.{Gives, byte_at, number_at, many_at};
 use crate::{Misread, byte, number16, number32, number64};
 use std::alloc::Global;
 
-/// A value with a reading of its own.
-pub trait Field: Drop {
+/// A way to read values of a type from bytes. It is a type of its own, so that a crate can say how values of another
+/// crate's types are read.
+pub trait Reads<T: Drop> {
     /// What bytes read as: the value at their front and the bytes after it, or none.
-    ghost reading: { List ℕ → Option (Self × List ℕ) };
+    ghost reading: { List ℕ → Option (T × List ℕ) };
 
     /// The value at the front of the bytes, and the bytes after it. `NoReading` exactly where they have no reading.
-    fn read(alloc: Global, bytes: &[u8]) -> Result<(Self, &[u8]), Misread>
+    fn read(alloc: Global, bytes: &[u8]) -> Result<(T, &[u8]), Misread>
         ensures { Gives (λ x. (x.0, x.1.now)) result (reading bytes.now) };
 }
 
-impl Field for u8 {
+/// Numbers of 1, 2, 4 and 8 bytes in network byte order, the highest first.
+pub struct NetworkOrder;
+
+impl Reads<u8> for NetworkOrder {
     ghost reading = { byte_at };
 
     fn read(_alloc: Global, bytes: &[u8]) -> Result<(u8, &[u8]), Misread> {
@@ -24,7 +28,7 @@ impl Field for u8 {
     }
 }
 
-impl Field for u16 {
+impl Reads<u16> for NetworkOrder {
     ghost reading = { number_at 2 };
 
     fn read(_alloc: Global, bytes: &[u8]) -> Result<(u16, &[u8]), Misread> {
@@ -32,7 +36,7 @@ impl Field for u16 {
     }
 }
 
-impl Field for u32 {
+impl Reads<u32> for NetworkOrder {
     ghost reading = { number_at 4 };
 
     fn read(_alloc: Global, bytes: &[u8]) -> Result<(u32, &[u8]), Misread> {
@@ -40,7 +44,7 @@ impl Field for u32 {
     }
 }
 
-impl Field for u64 {
+impl Reads<u64> for NetworkOrder {
     ghost reading = { number_at 8 };
 
     fn read(_alloc: Global, bytes: &[u8]) -> Result<(u64, &[u8]), Misread> {
@@ -49,13 +53,17 @@ impl Field for u64 {
 }
 
 /// The next `count` values, one behind the other, and the bytes after them. `NoReading` where one has none.
-pub fn many<T: Field>(alloc: Global, count: usize, bytes: &[u8]) -> Result<(Vec<T>, &[u8]), Misread>
-    ensures { Gives (λ x. (x.0.items, x.1.now)) result (many_at T.reading count bytes.now) }
+pub fn many<R: Reads<T>, T: Drop>(
+    alloc: Global,
+    count: usize,
+    bytes: &[u8],
+) -> Result<(Vec<T>, &[u8]), Misread>
+    ensures { Gives (λ x. (x.0.items, x.1.now)) result (many_at R.reading count bytes.now) }
 {
     let mut values = Vec::new(alloc);
     let mut rest = bytes;
     for _ in 0..count {
-        let (value, after) = T::read(alloc, rest)?;
+        let (value, after) = R::read(alloc, rest)?;
         values.push(value)?;
         rest = after;
     }

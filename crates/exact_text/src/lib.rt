@@ -12,7 +12,7 @@ mod misread;
 mod readers;
 mod writers;
 
-pub use fields::{Field, many};
+pub use fields::{NetworkOrder, Reads, many};
 pub use misread::Misread;
 pub use readers::{
     byte, expected, literal, nothing_behind, number16, number32, number64, record, slice, text,

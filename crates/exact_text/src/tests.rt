@@ -47,19 +47,25 @@ fn reads_texts(rt: HostRuntime) -> Result<(), Fail> {
 #[test]
 fn reads_lists(rt: HostRuntime) -> Result<(), Fail> {
     let bytes = [0, 1, 0, 2, 255, 255, 9];
-    let (numbers, rest) = many::<u16>(rt.alloc(), 3, &bytes)
+    let (numbers, rest) = many::<NetworkOrder, u16>(rt.alloc(), 3, &bytes)
         .ok()
         .ok_or("three numbers")?;
     assert_eq!(rt; numbers.as_slice(), [1u16, 2, 65535].as_slice());
     assert_eq!(rt; rest, [9u8].as_slice());
-    assert!(rt; has_none(many::<u16>(rt.alloc(), 4, &bytes)));
-    let (octets, _) = many::<u8>(rt.alloc(), 7, &bytes).ok().ok_or("seven bytes")?;
+    assert!(rt; has_none(many::<NetworkOrder, u16>(rt.alloc(), 4, &bytes)));
+    let (octets, _) = many::<NetworkOrder, u8>(rt.alloc(), 7, &bytes)
+        .ok()
+        .ok_or("seven bytes")?;
     assert_eq!(rt; octets.as_slice(), bytes.as_slice());
-    let (words, _) = many::<u32>(rt.alloc(), 1, &bytes).ok().ok_or("one word")?;
+    let (words, _) = many::<NetworkOrder, u32>(rt.alloc(), 1, &bytes)
+        .ok()
+        .ok_or("one word")?;
     assert_eq!(rt; words.as_slice(), [65538u32].as_slice());
-    let (longs, rest) = many::<u64>(rt.alloc(), 0, &bytes).ok().ok_or("no number")?;
+    let (longs, rest) = many::<NetworkOrder, u64>(rt.alloc(), 0, &bytes)
+        .ok()
+        .ok_or("no number")?;
     assert!(rt; longs.is_empty() && rest.len() == 7);
-    let (longs, _) = many::<u64>(rt.alloc(), 1, &[0, 0, 0, 0, 0, 0, 1, 2])
+    let (longs, _) = many::<NetworkOrder, u64>(rt.alloc(), 1, &[0, 0, 0, 0, 0, 0, 1, 2])
         .ok()
         .ok_or("one number")?;
     assert_eq!(rt; longs.as_slice(), [258u64].as_slice());

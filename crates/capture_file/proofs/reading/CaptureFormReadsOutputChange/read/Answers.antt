@@ -2,7 +2,7 @@ use Rattle.std.proofs.Common.{refl}
 use Rattle.map_entry.specs.Action.{output_change}
 use Rattle.capture_file.specs.RecordReading.{output_change_at}
 use Rattle.capture_file.proofs.Order.{ordered_channels, unordered_channels}
-use Rattle.capture_file.proofs.reading.OutputChangeField.read.Goals as goal
+use Rattle.capture_file.proofs.reading.CaptureFormReadsOutputChange.read.Goals as goal
 
 pub returns-in-Some : goal.returns-in-Some
 unfolding output_change_at
