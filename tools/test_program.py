@@ -130,6 +130,18 @@ class Memory(unittest.TestCase):
         self.assertEqual(run(["serial"], bytes(MOST), preexec_fn=limit), (12, b"", b"no memory\n"))
         self.assertEqual(run(["serial"], CAPTURE, preexec_fn=limit), (0, RESULT, b""))
 
+    def test_want_of_memory_for_the_words(self) -> None:
+        """Between too little memory to start with words of 1.8 MB and enough to copy them, the copy finds none."""
+        words = ["x" * 100_000] * 18
+        seen = set()
+        for half_megabytes in range(6, 24):
+            limit = half_megabytes << 19
+            status, out, err = run(words, preexec_fn=lambda: resource.setrlimit(resource.RLIMIT_AS, (limit, limit)))
+            if status != 127:  # it could be loaded
+                self.assertIn((status, out, err), [(12, b"", b"no memory\n"), (2, b"", USAGE)])
+                seen.add(status)
+        self.assertEqual(seen, {2, 12})
+
 
 class Captures:
     """Captures of the plain form, made at random."""
