@@ -4,9 +4,12 @@ ghost use Rattle.std.specs.Prelude.{ℕ, List, Option};
 ghost use Rattle.chan_io.specs.Causes.{HasCause};
 ghost use Rattle.chan_io.specs.Streams.{Reads, Writes};
 
+use thiserror::Error;
+
 /// A call of the outside failed, which raised its object's count of faults. What the object told of its bytes before
 /// the call it tells unchanged.
-#[derive(Clone, Copy, Debug, PartialEq, Eq)]
+#[derive(Clone, Copy, Debug, PartialEq, Eq, Error)]
+#[error("a call of the outside failed")]
 pub struct Failed;
 
 /// Where bytes are read from.

@@ -7,18 +7,22 @@ ghost use Rattle.chan_io.specs.Streams.{TakesPrefix, WholeRead, LongRead, Bounde
 
 use crate::{Failed, Sink, Source};
 use std::alloc::Global;
+use thiserror::Error;
 
 /// The most bytes that one read asks a source for.
 const PIECE: usize = 8192;
 
 /// Why a source was not read to its end.
-#[derive(Clone, Copy, Debug, PartialEq, Eq)]
+#[derive(Clone, Copy, Debug, PartialEq, Eq, Error)]
 pub enum Unread {
     /// The source failed.
+    #[error("the source failed")]
     Failed,
     /// It has more bytes than the limit.
+    #[error("the source has more bytes than the limit")]
     TooLong,
     /// There was no memory for the bytes.
+    #[error("memory ran out")]
     NoMemory,
 }
 

@@ -4,13 +4,16 @@ ghost use Rattle.std.specs.Prelude.{◌≡◌};
 ghost use Rattle.exact_text.specs.declared.misread.Misread.TheVariants.{NoMemory};
 
 use std::alloc::{AllocError, AllocFailed};
+use thiserror::Error;
 
 /// Why nothing was read.
-#[derive(Clone, Copy, Debug, PartialEq, Eq)]
+#[derive(Clone, Copy, Debug, PartialEq, Eq, Error)]
 pub enum Misread {
     /// The bytes have no reading.
+    #[error("the bytes have no reading")]
     NoReading,
     /// Memory ran out, which says nothing of the bytes.
+    #[error("memory ran out")]
     NoMemory,
 }
 

@@ -12,7 +12,7 @@ use Rattle.io_caps.specs.declared.fault.DeviceFault.{DeviceFault}
 use Rattle.io_caps.specs.declared.fault.DeviceFault.TheVariants.{Rate, Base, Hold, NoOutput, ManyInputs, ManyOutputs, Id, DoubleId, Channels, PayloadType, ManyChannels, Block, Payload, Unknown}
 
 -- the place of the first item that has not the property, and none where all have it
-pub record IsFirstOut {X : Type 0} (P : X → Type 0) (xs : List X) (place : Option ℕ) : Type 0 where
+pub record IsFirstFailing {X : Type 0} (P : X → Type 0) (xs : List X) (place : Option ℕ) : Type 0 where
   pub all : IfNone place (All P xs)
   pub within : IfSome place (λ k. k < length xs)
   pub some : IfSome place (λ _. All P xs → ⊥)
@@ -46,14 +46,14 @@ IsBroken d Hold = MOST_HOLD < d.hold
 IsBroken d NoOutput = length d.outputs ≡ 0
 IsBroken d ManyInputs = MOST_INPUTS < length d.inputs
 IsBroken d ManyOutputs = MOST_OUTPUTS < length d.outputs
-IsBroken d (Id slot) = IsFirstSlot (IsFirstOut (λ i. IsId i.id) d.inputs) (IsFirstOut (λ o. IsId o.id) d.outputs) slot
+IsBroken d (Id slot) = IsFirstSlot (IsFirstFailing (λ i. IsId i.id) d.inputs) (IsFirstFailing (λ o. IsId o.id) d.outputs) slot
 IsBroken d (DoubleId slot) = IsFirstSlot (IsFirstDouble (λ i. i.id) d.inputs) (IsFirstDouble (λ o. o.id) d.outputs) slot
-IsBroken d (Channels slot) = IsFirstSlot (IsFirstOut (λ i. AreChannels i.labels) d.inputs) (IsFirstOut (λ o. AreChannels o.labels) d.outputs) slot
-IsBroken d (PayloadType slot) = IsFirstSlot (IsFirstOut (λ i. IsPayloadType i.payload_type) d.inputs) (IsFirstOut (λ o. IsPayloadType o.payload_type) d.outputs) slot
+IsBroken d (Channels slot) = IsFirstSlot (IsFirstFailing (λ i. AreChannels i.labels) d.inputs) (IsFirstFailing (λ o. AreChannels o.labels) d.outputs) slot
+IsBroken d (PayloadType slot) = IsFirstSlot (IsFirstFailing (λ i. IsPayloadType i.payload_type) d.inputs) (IsFirstFailing (λ o. IsPayloadType o.payload_type) d.outputs) slot
 IsBroken d ManyChannels = MOST_INPUT_CHANNELS < sum_by (λ i. length i.labels) d.inputs
-IsBroken d (Block input) = IsFirstOut HasWholeBlocks d.inputs (Some input)
-IsBroken d (Payload output) = IsFirstOut (FitsPacket d.rate) d.outputs (Some output)
-IsBroken d (Unknown output) = IsFirstOut (λ o. IsRoutable (length d.inputs) o.routable) d.outputs (Some output)
+IsBroken d (Block input) = IsFirstFailing HasWholeBlocks d.inputs (Some input)
+IsBroken d (Payload output) = IsFirstFailing (FitsPacket d.rate) d.outputs (Some output)
+IsBroken d (Unknown output) = IsFirstFailing (λ o. IsRoutable (length d.inputs) o.routable) d.outputs (Some output)
 
 -- the limits that are tested before the one of this fault hold
 abbrev pub IsWithinBefore : DeviceParts → DeviceFault → Type 0

@@ -4,7 +4,7 @@ ghost use Rattle.std.specs.Prelude.{◌≡◌, ◌≢◌, ◌<◌, ◌≤◌, �
 ghost use Rattle.std.specs.List.{AllPairs, Any, sum_by};
 ghost use Rattle.io_caps.specs.declared.limits.TheConstants.{MOST_INPUTS, MOST_OUTPUTS, MOST_CHANNELS, MOST_FRAMES};
 ghost use Rattle.io_caps.specs.Port.{IsIdByte, IsId, AreChannels, IsPayloadType, HasWholeBlocks, FitsPacket, IsRoutable};
-ghost use Rattle.io_caps.specs.Fault.{IsFirstOut, IsFirstDouble, first_slot, IsFirstFault};
+ghost use Rattle.io_caps.specs.Fault.{IsFirstFailing, IsFirstDouble, first_slot, IsFirstFault};
 ghost use Rattle.io_caps.specs.Device.{IsBase, HasBounds, HasIds, HasStreams, HasRoutes, IsDevice};
 
 use crate::limits::{
@@ -98,21 +98,21 @@ fn is_base(rate: Rate, base: u64) -> bool
 
 /// The first port whose id is none.
 fn bad_id<P: Port>(ports: &[P]) -> Option<usize>
-    ensures { IsFirstOut (λ p. IsId (P.id p)) ports.now result }
+    ensures { IsFirstFailing (λ p. IsId (P.id p)) ports.now result }
 {
     ports.iter().position(|port| !is_id(port.id()))
 }
 
 /// The first port that has no channels or too many.
 fn bad_channels<P: Port>(ports: &[P]) -> Option<usize>
-    ensures { IsFirstOut (λ p. AreChannels (P.labels p)) ports.now result }
+    ensures { IsFirstFailing (λ p. AreChannels (P.labels p)) ports.now result }
 {
     ports.iter().position(|port| !are_channels(port.labels()))
 }
 
 /// The first port whose payload type is too high.
 fn bad_payload_type<P: Port>(ports: &[P]) -> Option<usize>
-    ensures { IsFirstOut (λ p. IsPayloadType (P.payload_type p)) ports.now result }
+    ensures { IsFirstFailing (λ p. IsPayloadType (P.payload_type p)) ports.now result }
 {
     ports
         .iter()
@@ -121,14 +121,14 @@ fn bad_payload_type<P: Port>(ports: &[P]) -> Option<usize>
 
 /// The first input whose channels are no whole blocks.
 fn bad_blocks(inputs: &[Input]) -> Option<usize>
-    ensures { IsFirstOut HasWholeBlocks inputs.now result }
+    ensures { IsFirstFailing HasWholeBlocks inputs.now result }
 {
     inputs.iter().position(|input| !input.has_whole_blocks())
 }
 
 /// The first output that lists an input beyond so many.
 fn bad_routable(inputs: usize, outputs: &[Output]) -> Option<usize>
-    ensures { IsFirstOut (λ o. IsRoutable inputs o.routable) outputs.now result }
+    ensures { IsFirstFailing (λ o. IsRoutable inputs o.routable) outputs.now result }
 {
     outputs
         .iter()
@@ -137,7 +137,7 @@ fn bad_routable(inputs: usize, outputs: &[Output]) -> Option<usize>
 
 /// The first output whose samples of a tick don't fit into one packet.
 fn bad_packet(rate: Rate, outputs: &[Output]) -> Option<usize>
-    ensures { IsFirstOut (FitsPacket rate) outputs.now result }
+    ensures { IsFirstFailing (FitsPacket rate) outputs.now result }
 {
     outputs.iter().position(|output| !output.fits_packet(rate))
 }

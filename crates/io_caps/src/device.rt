@@ -52,8 +52,8 @@ impl Model for Device {
 }
 
 impl Device {
-    /// The device of these parts. It is refused exactly where they break a limit, with the first fault that applies; a
-    /// refusal drops the parts. No memory is taken.
+    /// The device of these parts. It is refused exactly where they break a limit, with the first
+    /// fault that applies; a refusal drops the parts. No memory is taken.
     pub fn build(_alloc: Global, parts: DeviceParts) -> Result<Device, Or<DeviceFault>>
         ensures ok { IfOk result (λ device. device ≡ parts) }
         ensures within { OnOk result (IsDevice parts) }

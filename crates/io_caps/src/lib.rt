@@ -1,5 +1,5 @@
-//! The device: its rate, its inputs and its outputs, and the parts that every crate above stands on: want of
-//! memory, plain data that can be copied, and the one list type.
+//! The device: its rate, its inputs and its outputs, and the parts that every crate above stands
+//! on: want of memory, plain data that can be copied, and the one list type.
 #![tactic(auto)]
 
 mod checks;
@@ -10,6 +10,7 @@ mod list;
 mod memory;
 mod port;
 mod rate;
+mod seat;
 
 pub use device::{Device, DeviceParts};
 pub use fault::{DeviceFault, Slot};
@@ -17,6 +18,7 @@ pub use list::ListOf;
 pub use memory::{NoMemory, Or, TryCopy};
 pub use port::{Input, Output, Parent, Routable};
 pub use rate::{Rate, Width};
+pub use seat::NoSeat;
 
 /// The bytes of a name, a description or a label, which need not be UTF-8.
 pub type Text = ListOf<u8>;

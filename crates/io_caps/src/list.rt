@@ -82,7 +82,8 @@ impl<T: Drop> ListOf<T> {
         Ok(())
     }
 
-    /// Moves the items of another list to the end. Want of memory leaves the list as it was, and lets the others go.
+    /// Moves the items of another list to the end. Want of memory leaves the list as it was, and
+    /// lets the others go.
     pub fn append(&mut self, more: ListOf<T>) -> Result<(), NoMemory>
         ensures ok { OnOk result (self.new ≡ self.old ++ more) }
         ensures err { OnErr result (self.new ≡ self.old) }

@@ -3,9 +3,12 @@
 ghost use Rattle.std.specs.Prelude.{◌≡◌, IfOk};
 
 use std::alloc::{AllocError, AllocFailed};
+use std::{error, fmt};
+use thiserror::Error;
 
 /// Memory ran out.
-#[derive(Clone, Copy, Debug, PartialEq, Eq)]
+#[derive(Clone, Copy, Debug, PartialEq, Eq, Error)]
+#[error("memory ran out")]
 pub struct NoMemory;
 
 /// A fault, or want of memory.
@@ -14,6 +17,17 @@ pub enum Or<F> {
     Fault(F),
     NoMemory,
 }
+
+impl<F: fmt::Display> fmt::Display for Or<F> {
+    fn fmt<W: fmt::Write>(&self, f: &mut fmt::Formatter<W>) -> fmt::Result {
+        match self {
+            Or::Fault(fault) => write!(f, "{fault}"),
+            Or::NoMemory => write!(f, "{NoMemory}"),
+        }
+    }
+}
+
+impl<F: fmt::Debug + fmt::Display + Drop> error::Error for Or<F> {}
 
 impl<F> From<NoMemory> for Or<F> {
     ghost use Rattle.io_caps.specs.declared.memory.Or.TheVariants.{NoMemory};

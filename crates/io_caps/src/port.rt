@@ -20,8 +20,8 @@ impl TryCopy for Parent {
     }
 }
 
-/// What may be routed to the channels of an output: anything, or just the inputs listed. A listed `None` allows that a
-/// channel is unrouted.
+/// What may be routed to the channels of an output: anything, or just the inputs listed. A listed
+/// `None` allows that a channel is unrouted.
 #[derive(Debug, Drop)]
 pub enum Routable {
     All,

@@ -6,7 +6,8 @@ ghost use Rattle.io_caps.specs.Rate.{IsRate, bytes_per_sample};
 use crate::limits::MOST_FRAMES;
 use crate::{NoMemory, TryCopy};
 
-/// How many bits a sample of a stream has: 16 (L16, RFC 3551 section 4.5.11) or 24 (L24, RFC 3190 section 4).
+/// How many bits a sample of a stream has: 16 (L16, RFC 3551 section 4.5.11) or 24 (L24, RFC 3190
+/// section 4).
 #[derive(Clone, Copy, Debug, PartialEq, Eq)]
 pub enum Width {
     L16,

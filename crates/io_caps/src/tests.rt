@@ -2,7 +2,8 @@ use super::*;
 use std::alloc::Global;
 use std::test::Fail;
 
-/// An input or output: its id, how many channels, its payload type, and its block size or the last input that it lists.
+/// An input or output: its id, how many channels, its payload type, and its block size or the last
+/// input that it lists.
 type Port = (&'static str, usize, u8, u8);
 
 const A: Port = ("a", 2, 96, 1);
@@ -242,5 +243,16 @@ fn lists_joined(rt: HostRuntime) -> Result<(), Fail> {
     let mut front = text(rt.alloc(), "ab")?;
     front.append(text(rt.alloc(), "cd")?)?;
     assert_eq!(rt; front.as_slice(), b"abcd".as_slice());
+    Ok(())
+}
+
+#[test]
+fn fault_texts(rt: HostRuntime) -> Result<(), Fail> {
+    let alloc = rt.alloc();
+    let fault = DeviceFault::DoubleId(Slot::Target(3));
+    let text = format!(in alloc; "{}", Or::Fault(fault))?;
+    assert_eq!(rt; text.as_str(), "output 3: an earlier one has this id");
+    let text = format!(in alloc; "{}", Or::<DeviceFault>::NoMemory)?;
+    assert_eq!(rt; text.as_str(), "memory ran out");
     Ok(())
 }

@@ -1,4 +1,4 @@
--- Which entry rules: laws of the selection.
+-- Which entry rules: laws of the selection, over any key.
 use Rattle.std.proofs.Common.{◌≡◌, ℕ, ◌+◌, ◌-◌, ◌<◌, ◌≤◌, Bool, true, false, List, [], ◌∷◌, ◌++◌, length, get_or, take, Some, None, Option, refl, sym, ap, ◌∙◌, arith}
 use Rattle.std.specs.Prelude.{All}
 use Rattle.std.specs.Option.{option_or}
@@ -6,9 +6,10 @@ use Rattle.std.proofs.lemmas.List.{take_more}
 use Rattle.std.proofs.lemmas.List.Elements.{All-head, All-tail, All-cons, All-nil}
 use Rattle.map_entry.specs.declared.cell.Cell.{Cell}
 use Rattle.map_entry.specs.declared.entry.Entry.{Entry}
-use Rattle.map_entry.specs.Entry.{fits, row_where, selected}
+use Rattle.map_entry.specs.Entry.{rules, row_where, selected_by}
 
--- the first of three that is there
+-- ---- the first of options that is there
+
 pub option_or-assoc : {X : Type 0} (a b c : Option X) → option_or (option_or a b) c ≡ option_or a (option_or b c)
 option_or-assoc None b c = refl
 option_or-assoc (Some x) b c = refl
@@ -17,11 +18,11 @@ pub option_or-None : {X : Type 0} (a : Option X) → option_or a None ≡ a
 option_or-None None = refl
 option_or-None (Some x) = refl
 
-option_or-first : {X : Type 0} (a b : Option X) → option_or a b ≡ None → a ≡ None
+pub option_or-first : {X : Type 0} (a b : Option X) → option_or a b ≡ None → a ≡ None
 option_or-first None b e = refl
 option_or-first (Some x) b e = absurd cc
 
-option_or-second : {X : Type 0} (a b : Option X) → option_or a b ≡ None → b ≡ None
+pub option_or-second : {X : Type 0} (a b : Option X) → option_or a b ≡ None → b ≡ None
 option_or-second None b e = e
 option_or-second (Some x) b e = absurd cc
 
@@ -29,46 +30,62 @@ row_where-None : (b : Bool) (e : Entry) → row_where b e ≡ None → b ≡ fal
 row_where-None true e missed = absurd cc
 row_where-None false e missed = refl
 
--- what is selected of the second list, or else of the first
-pub selected-append : (a b : List Entry) (o t : ℕ) → selected (a ++ b) o t ≡ option_or (selected b o t) (selected a o t)
-selected-append [] b o t = sym (option_or-None (selected b o t))
-selected-append (e ∷ a) b o t =
-    ap (λ (r : Option (List Cell)). option_or r (row_where (fits o t e) e)) (selected-append a b o t)
-    ∙ option_or-assoc (selected b o t) (selected a o t) (row_where (fits o t e) e)
+-- append: what is selected of the second list, or else of the first
+pub selected-append : (key : Entry → ℕ) (a b : List Entry) (o t : ℕ) → selected_by key (a ++ b) o t ≡ option_or (selected_by key b o t) (selected_by key a o t)
+selected-append key [] b o t = sym (option_or-None (selected_by key b o t))
+selected-append key (e ∷ a) b o t =
+    ap (λ (r : Option (List Cell)). option_or r (row_where (rules key o t e) e)) (selected-append key a b o t)
+    ∙ option_or-assoc (selected_by key b o t) (selected_by key a o t) (row_where (rules key o t e) e)
 
--- nothing is selected where no entry fits
-pub selected-miss : (es : List Entry) (o t : ℕ) → All (λ e. fits o t e ≡ false) es → selected es o t ≡ None
-selected-miss [] o t fails = refl
-selected-miss (e ∷ es) o t fails =
-    let head : fits o t e ≡ false = All-head (λ (x : Entry). fits o t x ≡ false) e es fails in
-    let rest = selected-miss es o t (All-tail (λ (x : Entry). fits o t x ≡ false) e es fails) in
+-- miss: nothing is selected where no entry rules
+pub selected-miss : (key : Entry → ℕ) (es : List Entry) (o t : ℕ) → All (λ e. rules key o t e ≡ false) es → selected_by key es o t ≡ None
+selected-miss key [] o t none = refl
+selected-miss key (e ∷ es) o t none =
+    let head : rules key o t e ≡ false = All-head (λ (x : Entry). rules key o t x ≡ false) e es none in
+    let rest = selected-miss key es o t (All-tail (λ (x : Entry). rules key o t x ≡ false) e es none) in
     rw (rest, head) refl
 
--- no entry fits where nothing is selected
-pub selected-missed : (es : List Entry) (o t : ℕ) → selected es o t ≡ None → All (λ e. fits o t e ≡ false) es
-selected-missed [] o t missed = All-nil (λ (x : Entry). fits o t x ≡ false)
-selected-missed (e ∷ es) o t missed =
-    All-cons (λ (x : Entry). fits o t x ≡ false) e es
-    (row_where-None (fits o t e) e (option_or-second (selected es o t) (row_where (fits o t e) e) missed))
-    (selected-missed es o t (option_or-first (selected es o t) (row_where (fits o t e) e) missed))
+-- no entry rules where nothing is selected
+pub selected-missed : (key : Entry → ℕ) (es : List Entry) (o t : ℕ) → selected_by key es o t ≡ None → All (λ e. rules key o t e ≡ false) es
+selected-missed key [] o t missed = All-nil (λ (x : Entry). rules key o t x ≡ false)
+selected-missed key (e ∷ es) o t missed =
+    All-cons (λ (x : Entry). rules key o t x ≡ false) e es
+    (row_where-None (rules key o t e) e (option_or-second (selected_by key es o t) (row_where (rules key o t e) e) missed))
+    (selected-missed key es o t (option_or-first (selected_by key es o t) (row_where (rules key o t e) e) missed))
 
--- entries that don't fit change nothing
-pub selected-unfit : (a b : List Entry) (o t : ℕ) → All (λ e. fits o t e ≡ false) b → selected (a ++ b) o t ≡ selected a o t
-selected-unfit a b o t fails = rw (selected-append a b o t, selected-miss b o t fails) refl
+-- stays: entries that don't rule change nothing
+pub selected-stays : (key : Entry → ℕ) (a b : List Entry) (o t : ℕ) → All (λ e. rules key o t e ≡ false) b → selected_by key (a ++ b) o t ≡ selected_by key a o t
+selected-stays key a b o t none = rw (selected-append key a b o t, selected-miss key b o t none) refl
+
+-- an entry due later rules nothing below
+pub rules-later : (key : Entry → ℕ) (o t : ℕ) (e : Entry) → t < key e → rules key o t e ≡ false
+rules-later key o t e late = grind arith
+
+none_rules : (key : Entry → ℕ) (es : List Entry) (o t : ℕ) → All (λ e. t < key e) es → All (λ e. rules key o t e ≡ false) es
+none_rules key [] o t late = All-nil (λ (x : Entry). rules key o t x ≡ false)
+none_rules key (e ∷ es) o t late =
+    All-cons (λ (x : Entry). rules key o t x ≡ false) e es
+    (rules-later key o t e (All-head (λ (x : Entry). t < key x) e es late))
+    (none_rules key es o t (All-tail (λ (x : Entry). t < key x) e es late))
+
+-- later: entries due later change nothing below
+pub selected-later : (key : Entry → ℕ) (a b : List Entry) (o t : ℕ) → All (λ e. t < key e) b → selected_by key (a ++ b) o t ≡ selected_by key a o t
+selected-later key a b o t late = selected-stays key a b o t (none_rules key b o t late)
 
 -- the last entry
-pub selected-last : (es : List Entry) (e : Entry) (o t : ℕ) → selected (es ++ e ∷ []) o t ≡ option_or (row_where (fits o t e) e) (selected es o t)
-selected-last es e o t = selected-append es (e ∷ []) o t
+pub selected-last : (key : Entry → ℕ) (es : List Entry) (e : Entry) (o t : ℕ) → selected_by key (es ++ e ∷ []) o t ≡ option_or (row_where (rules key o t e) e) (selected_by key es o t)
+selected-last key es e o t = selected-append key es (e ∷ []) o t
 
--- an entry that fits, with none behind it that does
-pub selected-hit : (a : List Entry) (e : Entry) (b : List Entry) (o t : ℕ) → fits o t e ≡ true → All (λ x. fits o t x ≡ false) b → selected (a ++ e ∷ b) o t ≡ Some e.row
-selected-hit a e b o t hit fails =
-    let rest : selected b o t ≡ None = selected-miss b o t fails in
-    selected-append a (e ∷ b) o t ∙ rw (rest, hit) refl
+-- hit: an entry that rules, with none behind it that does
+pub selected-hit : (key : Entry → ℕ) (a : List Entry) (e : Entry) (b : List Entry) (o t : ℕ) → rules key o t e ≡ true → All (λ x. rules key o t x ≡ false) b → selected_by key (a ++ e ∷ b) o t ≡ Some e.row
+selected-hit key a e b o t hit none =
+    let rest : selected_by key b o t ≡ None = selected-miss key b o t none in
+    selected-append key a (e ∷ b) o t ∙ rw (rest, hit) refl
 
 -- the first part of a list with its last entry
-pub selected-step : (es : List Entry) (at : ℕ) (e : Entry) (o t : ℕ) → 0 < at → at ≤ length es → e ≡ get_or es (at - 1) e → selected (take at es) o t ≡ option_or (row_where (fits o t e) e) (selected (take (at - 1) es) o t)
-selected-step es at e o t some within is =
+pub selected-step : (key : Entry → ℕ) (es : List Entry) (at : ℕ) (e : Entry) (o t : ℕ) → 0 < at → at ≤ length es → e ≡ get_or es (at - 1) e
+    → selected_by key (take at es) o t ≡ option_or (row_where (rules key o t e) e) (selected_by key (take (at - 1) es) o t)
+selected-step key es at e o t some within is =
     let place : at - 1 + 1 ≡ at = omega arith in
     let more : take (at - 1 + 1) es ≡ take (at - 1) es ++ get_or es (at - 1) e ∷ [] = take_more es (at - 1) e (omega arith) in
-    ap (λ (xs : List Entry). selected xs o t) (rw (place, ← is) at more) ∙ selected-last (take (at - 1) es) e o t
+    ap (λ (xs : List Entry). selected_by key xs o t) (rw (place, ← is) at more) ∙ selected-last key (take (at - 1) es) e o t

@@ -1,14 +1,15 @@
 -- Changes of rows. (This project's own, after the activations of IS-08.)
-use Rattle.std.specs.Prelude.{ℕ, ◌<◌, eqb, List, length, fold, slice_set, All, Option, Some, None, IfSome}
+use Rattle.std.specs.Prelude.{◌≡◌, ◌≢◌, ℕ, ◌<◌, eqb, List, length, fold, slice_get, slice_set, All, Option, Some, None, IfSome}
 use Rattle.std.specs.List.{find, AllAdjacentBelow}
 use Rattle.map_entry.specs.declared.cell.Cell.{Cell}
 use Rattle.map_entry.specs.declared.change.Change.{Change}
 
--- what an action changes of one output
+-- what an action changes of one output, as contracts see it
 pub record OutputChangeParts : Type 0 where
   pub output : ℕ
   pub changes : List Change
 
+-- what is changed of an output
 abbrev pub output_change : ℕ → List Change → OutputChangeParts
 output_change output changes = record { output = output; changes = changes }
 
@@ -38,13 +39,24 @@ abbrev pub applied_by : Option OutputChangeParts → List Cell → List Cell
 applied_by None row = row
 applied_by (Some change) row = with_changes change.changes row
 
+-- the row of an output with what an action changes of it
 abbrev pub applied : List Cell → List OutputChangeParts → ℕ → List Cell
 applied row action output = applied_by (change_of action output) row
 
--- each change names a channel that is in the row
+-- each change names one of so many channels
 abbrev pub NamesChannels : ℕ → OutputChangeParts → Type 0
 NamesChannels channels c = All (λ change. change.channel < channels) c.changes
 
 -- what the action changes of the output names channels of a row of so many
 abbrev pub FitsRow : List OutputChangeParts → ℕ → ℕ → Type 0
 FitsRow action output channels = IfSome (change_of action output) (NamesChannels channels)
+
+-- what an action made of a row of the output: each channel that it names has its cell
+abbrev pub HasNamedCells : List OutputChangeParts → ℕ → List Cell → Type 0
+HasNamedCells action output made =
+    IfSome (change_of action output) (λ c. All (λ change. slice_get made change.channel ≡ Some change.cell) c.changes)
+
+-- and each channel that it doesn't name has the cell that it had
+abbrev pub KeepsOtherCells : List OutputChangeParts → ℕ → List Cell → List Cell → Type 0
+KeepsOtherCells action output row made =
+    (channel : ℕ) → IfSome (change_of action output) (λ c. All (λ change. change.channel ≢ channel) c.changes) → slice_get made channel ≡ slice_get row channel

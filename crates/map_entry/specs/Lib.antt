@@ -1,4 +1,5 @@
 pub mod Action
 pub mod Entry
+pub mod Row
 pub mod Setup
 pub mod Tick

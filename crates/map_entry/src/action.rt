@@ -1,6 +1,7 @@
 //! What an activation changes.
 
-ghost use Rattle.std.specs.Prelude.{◌≡◌, [], ◌∷◌, ◌++◌, ◌<◌, ◌-◌, ◌↔◌, length, slice_get, IfSome, IfNone, OnSome, IfOk, OnOk, OnErr, IsSome, IsTrue};
+ghost use Rattle.std.specs.Prelude.{◌≡◌, [], ◌∷◌, ◌++◌, ◌<◌, ◌-◌, ◌↔◌, length, slice_get};
+ghost use Rattle.std.specs.Prelude.{IfSome, IfNone, OnSome, IfOk, OnOk, OnErr, IsSome, IsTrue};
 ghost use Rattle.std.specs.Bool.{OnTrue, OnFalse};
 ghost use Rattle.std.specs.Option.{option_copied};
 ghost use Rattle.map_entry.specs.Action.{IsAction, FitsRow, change_of};
@@ -10,8 +11,8 @@ use io_caps::{ListOf, NoMemory, TryCopy};
 use std::alloc::Global;
 use std::marker::Model;
 
-/// What an activation changes, output by output, which contracts see as the list of these changes. The outputs ascend,
-/// so no two are alike.
+/// What an activation changes, output by output, which contracts see as the list of these changes.
+/// The outputs ascend, so no two are alike.
 #[derive(Debug, Drop)]
 pub struct Action {
     changes: ListOf<OutputChange>,
@@ -51,7 +52,8 @@ impl Action {
         }
     }
 
-    /// Adds what is changed of an output behind the last one. Want of memory leaves the action as it was.
+    /// Adds what is changed of an output behind the last one. Want of memory leaves the action as
+    /// it was.
     pub fn push(&mut self, change: OutputChange) -> Result<(), NoMemory>
         requires { IfSome (slice_get self.old (length self.old - 1)) (λ last. last.output < change.output) }
         ensures ok { OnOk result (self.new ≡ self.old ++ change ∷ []) }
@@ -63,8 +65,8 @@ impl Action {
         Ok(())
     }
 
-    /// Adds what is changed of an output, or answers `false` exactly where it doesn't come behind the last one. Then, and
-    /// for want of memory, the action stays as it was.
+    /// Adds what is changed of an output, or answers `false` exactly where it doesn't come behind
+    /// the last one. Then, and for want of memory, the action stays as it was.
     pub fn try_push(&mut self, change: OutputChange) -> Result<bool, NoMemory>
         ensures added { IfOk result (λ b. OnTrue b (self.new ≡ self.old ++ change ∷ [])) }
         ensures kept { IfOk result (λ b. OnFalse b (self.new ≡ self.old)) }
@@ -99,7 +101,8 @@ impl Action {
 
     /// What is changed of an output, and `None` exactly where the action doesn't name it.
     pub fn change_of(&self, output: u8) -> Option<&OutputChange>
-        ensures { option_copied result ≡ change_of self.now output }
+        ensures value { option_copied result ≡ change_of self.now output }
+        ensures valid { IsAction self.now }
     {
         self.changes
             .as_slice()

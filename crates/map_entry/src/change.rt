@@ -1,7 +1,8 @@
 //! Changes of the channels of one output.
 
 ghost use Rattle.std.specs.Prelude.{◌≡◌, ◌↔◌, IsTrue, IfSome, IfNone, OnSome};
-ghost use Rattle.map_entry.specs.Action.{AreAscending, IsOutputChange, NamesChannels, output_change};
+ghost use Rattle.map_entry.specs.Action.{AreAscending, IsOutputChange, NamesChannels};
+ghost use Rattle.map_entry.specs.Action.{output_change};
 
 use crate::{Cell, Changes};
 use io_caps::{NoMemory, TryCopy};

@@ -6,6 +6,8 @@ ghost use Rattle.map_entry.specs.Tick.{claim_tick, claim_output, first_tick};
 /// Numbers of claims are below this, 2^40. (This project's own.)
 pub const CLAIMS_LIMIT: u64 = 1 << 40;
 
+const _: () = prove!(CLAIMS_LIMIT == 1_099_511_627_776);
+
 /// The output of a claim: claim k is the packet of output k mod n, with n outputs.
 pub fn claim_output(outputs: u8, claim: u64) -> u8
     requires { 0 < outputs }
@@ -24,8 +26,8 @@ pub fn claim_tick(base: u64, outputs: u8, claim: u64) -> u64
     base + claim / outputs as u64
 }
 
-/// The first tick of which no packet is claimed after so many claims: these, divided by the outputs and rounded up, behind
-/// the base.
+/// The first tick of which no packet is claimed after so many claims: these, divided by the outputs
+/// and rounded up, behind the base.
 pub fn first_tick(base: u64, outputs: u8, claims: u64) -> u64
     requires some { 0 < outputs }
     requires sum { first_tick base outputs claims < 2 ^ 64 }

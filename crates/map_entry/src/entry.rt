@@ -1,7 +1,7 @@
 //! Entries: which row an output has from when on.
 
 ghost use Rattle.std.specs.Prelude.{◌≡◌};
-ghost use Rattle.map_entry.specs.Entry.{fits};
+ghost use Rattle.map_entry.specs.Entry.{due, entry_of, rules};
 
 use crate::Row;
 use io_caps::{NoMemory, TryCopy};
@@ -19,10 +19,7 @@ pub struct Entry {
 impl Entry {
     /// The entry of these parts, which takes no memory.
     pub fn new(output: u8, tick: u64, row: Row, at: u64) -> Entry
-        ensures output { result.output ≡ output }
-        ensures tick { result.tick ≡ tick }
-        ensures row { result.row ≡ row }
-        ensures at { result.at ≡ at }
+        ensures { result ≡ entry_of output tick row at }
     {
         Entry {
             output,
@@ -32,9 +29,9 @@ impl Entry {
         }
     }
 
-    /// Whether it is of this output and has taken effect at a tick.
-    pub fn fits(&self, output: u8, tick: u64) -> bool
-        ensures { result ≡ fits output tick self.now }
+    /// Whether it rules this output at a tick: it is of the output, and has taken effect.
+    pub fn rules(&self, output: u8, tick: u64) -> bool
+        ensures { result ≡ rules due output tick self.now }
     {
         self.output == output && self.tick <= tick
     }

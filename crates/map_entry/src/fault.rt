@@ -1,19 +1,28 @@
 //! What rows can be refused for.
 
 use io_caps::{NoMemory, TryCopy};
+use thiserror::Error;
 
-/// The first check that a row fails, in the order of the variants, each with a channel of the output.
-#[derive(Clone, Copy, Debug, PartialEq, Eq)]
+/// The first condition that a row fails, in the order of the variants, each with the lowest channel
+/// of the output that fails it.
+#[derive(Clone, Copy, Debug, PartialEq, Eq, Error)]
 pub enum RowFault {
-    /// The lowest channel that names an input that isn't there.
+    /// The channel names an input that isn't there.
+    #[error("channel {0} names an input that is not there")]
     Input(u8),
-    /// All inputs that are named are there: the lowest channel that names a channel that isn't there.
+    /// The channel names a channel of an input that isn't there.
+    #[error("channel {0} names a channel that is not there")]
     Channel(u8),
-    /// The lowest channel that may not be routed so. Not answered yet, nor are the two below.
+    /// The channel may not be routed so: what it names, or that it is unrouted, isn't on the
+    /// output's routable list.
+    #[error("channel {0} may not be routed so")]
     NotRoutable(u8),
-    /// The lowest first channel of a piece that is no whole block.
+    /// The channel begins a piece that is no whole block of its input.
+    #[error("channel {0} begins a piece that is no whole block")]
     Block(u8),
-    /// The lowest first channel of a piece that is in another order than its block.
+    /// The channel begins a piece in another order than its block, whose channels may not be
+    /// reordered.
+    #[error("channel {0} begins a piece in another order than its block")]
     Order(u8),
 }
 
@@ -24,11 +33,14 @@ impl TryCopy for RowFault {
 }
 
 /// What base rows can be refused for.
-#[derive(Clone, Copy, Debug, PartialEq, Eq)]
+#[derive(Clone, Copy, Debug, PartialEq, Eq, Error)]
 pub enum SetupFault {
     /// Not a row for each output with a cell for each of its channels.
+    #[error("there is not a row for each output with a cell for each channel")]
     Count,
-    /// There is such a row for each output: the lowest whose row names what isn't there, and the first check that it fails.
+    /// There is such a row for each output: the lowest output whose row fails the check, and what
+    /// it fails.
+    #[error("output {output}: {fault}")]
     BaseRow { output: u8, fault: RowFault },
 }
 

@@ -1,24 +1,27 @@
-//! What is routed to the outputs: cells and rows, entries and which of them rules a tick, actions, and the setup of a
-//! device with its base rows.
+//! What is routed to the outputs: cells and rows, entries and which of them rules a tick, actions,
+//! and the setup of a device with its base rows.
 #![tactic(auto)]
 
 mod action;
 mod cell;
 mod change;
+mod check;
 mod claims;
 mod entry;
 mod fault;
+mod pieces;
 mod routing;
 mod setup;
 
 pub use action::Action;
 pub use cell::Cell;
 pub use change::{Change, OutputChange};
+pub use check::check_row;
 pub use claims::{CLAIMS_LIMIT, claim_output, claim_tick, first_tick};
 pub use entry::Entry;
 pub use fault::{RowFault, SetupFault};
 use io_caps::ListOf;
-pub use routing::{apply, select};
+pub use routing::{apply, select, select_in};
 pub use setup::Setup;
 
 /// What an output is routed from: a cell for each channel.

@@ -1,18 +1,18 @@
 //! A device with its base rows.
 
-ghost use Rattle.std.specs.Prelude.{◌≡◌, ◌≤◌, ◌↔◌, IsTrue, IfOk, IfErr, OnOk, OnErr, All, Some, IsSomeAnd, slice_get, length};
+ghost use Rattle.std.specs.Prelude.{◌≡◌, ◌<◌, ◌↔◌, IsTrue, IfOk, IfErr, OnOk, OnErr, Some};
+ghost use Rattle.std.specs.Prelude.{IsSomeAnd, slice_get, length};
 ghost use Rattle.std.specs.List.{AllZip};
-ghost use Rattle.io_caps.specs.declared.limits.TheConstants.{MOST_CHANNELS, MOST_OUTPUTS};
-ghost use Rattle.map_entry.specs.Setup.{IsSetup, IsBrokenBy, IsRowFault, HasCells, NamesInput, NamesChannel, setup_of};
-ghost use Rattle.io_caps.specs.Fault.{IsFirstOut};
+ghost use Rattle.map_entry.specs.Setup.{IsSetup, IsBrokenBy, AreRowsOk, HasCells, HasRowFault, setup_of};
 ghost use Rattle.io_caps.specs.Memory.{IsFaultAnd};
 
-use crate::{Cell, Row, RowFault, Rows, SetupFault};
-use io_caps::{Device, Input, NoMemory, Or, Output, TryCopy};
+use crate::{Row, RowFault, Rows, SetupFault, check_row};
+use io_caps::{Device, NoMemory, Or, Output, TryCopy};
 use std::alloc::Global;
 use std::marker::Model;
 
-/// A device with a base row for each output, which has a cell for each channel. The cells name channels that are there.
+/// A device with a base row for each output, which has a cell for each channel and passes the
+/// check.
 #[derive(Debug, Drop)]
 pub struct Setup {
     pub device: Device,
@@ -30,9 +30,9 @@ impl Model for Setup {
 }
 
 impl Setup {
-    /// The device with these base rows. It is refused by a fault exactly where they don't fit the device: `Count`, or
-    /// `BaseRow` with the lowest output at fault and the first check that its row fails, `Input` or `Channel` (the row checks
-    /// for blocks, order and routable lists aren't made yet). A refusal drops both. No memory is taken.
+    /// The device with these base rows. It is refused by a fault exactly where they don't fit the
+    /// device: `Count`, or `BaseRow` with the lowest output whose row fails the check, and the
+    /// fault of [`check_row`]. A refusal drops both. No memory is taken.
     pub fn build(_alloc: Global, device: Device, rows: Rows) -> Result<Setup, Or<SetupFault>>
         ensures ok { IfOk result (λ setup. setup ≡ setup_of device rows) }
         ensures within { OnOk result (IsSetup (setup_of device rows)) }
@@ -42,7 +42,7 @@ impl Setup {
         if !have_cells(device.output_slice(), rows.as_slice()) {
             return Err(Or::Fault(SetupFault::Count));
         }
-        match check_rows(device.input_slice(), rows.as_slice()) {
+        match check_rows(&device, &rows) {
             Ok(()) => Ok(Setup { device, rows }),
             Err((output, fault)) => Err(Or::Fault(SetupFault::BaseRow { output, fault })),
         }
@@ -61,51 +61,27 @@ fn have_cells(outputs: &[Output], rows: &[Row]) -> bool
     }
 }
 
-/// The lowest output whose row names what isn't there, with the first check that this row fails.
-fn check_rows(inputs: &[Input], rows: &[Row]) -> Result<(), (u8, RowFault)>
-    requires few { length rows.now ≤ MOST_OUTPUTS }
-    requires short { All (λ row. length row ≤ MOST_CHANNELS) rows.now }
-    ensures ok { OnOk result (All (All (NamesChannel inputs.now)) rows.now) }
-    ensures fault { OnErr result (All (All (NamesChannel inputs.now)) rows.now → ⊥) }
-    ensures output { IfErr result (λ e. IsFirstOut (All (NamesChannel inputs.now)) rows.now (Some e.0)) }
-    ensures row { IfErr result (λ e. IsSomeAnd (slice_get rows.now e.0) (λ row. IsRowFault inputs.now row e.1)) }
+/// The lowest output whose row fails the check, with the first condition that it fails.
+fn check_rows(device: &Device, rows: &Rows) -> Result<(), (u8, RowFault)>
+    requires { AllZip HasCells device.now.outputs rows.now }
+    ensures ok { OnOk result (AreRowsOk (setup_of device.now rows.now) (length rows.now)) }
+    ensures before { IfErr result (λ e. AreRowsOk (setup_of device.now rows.now) e.0) }
+    ensures first { IfErr result (λ e. HasRowFault (setup_of device.now rows.now) e.0 e.1) }
 {
-    for output in 0..rows.len() {
-        if let Err(fault) = check_cells(inputs, rows[output].as_slice()) {
-            return Err((output as u8, fault));
+    for output in 0..device.outputs() {
+        if let Err(fault) = check_row(device, output, row_at(rows, output)) {
+            return Err((output, fault));
         }
     }
     Ok(())
 }
 
-/// The first check that a row fails. All inputs are looked at before any channel.
-fn check_cells(inputs: &[Input], row: &[Cell]) -> Result<(), RowFault>
-    requires { length row.now ≤ MOST_CHANNELS }
-    ensures ok { OnOk result (All (NamesChannel inputs.now) row.now) }
-    ensures fault { OnErr result (All (NamesChannel inputs.now) row.now → ⊥) }
-    ensures first { IfErr result (IsRowFault inputs.now row.now) }
+/// The row of an output that is there.
+fn row_at(rows: &Rows, output: u8) -> &Row
+    requires { output < length rows.now }
+    ensures { slice_get rows.now output ≡ Some result.now }
 {
-    if let Some(channel) = bad_input(inputs, row) {
-        return Err(RowFault::Input(channel as u8));
-    }
-    if let Some(channel) = bad_channel(inputs, row) {
-        return Err(RowFault::Channel(channel as u8));
-    }
-    Ok(())
-}
-
-/// The lowest channel that names an input that isn't there.
-fn bad_input(inputs: &[Input], row: &[Cell]) -> Option<usize>
-    ensures { IsFirstOut (NamesInput inputs.now) row.now result }
-{
-    row.iter().position(|cell| !cell.names_input(inputs))
-}
-
-/// The lowest channel that names a channel that isn't there.
-fn bad_channel(inputs: &[Input], row: &[Cell]) -> Option<usize>
-    ensures { IsFirstOut (NamesChannel inputs.now) row.now result }
-{
-    row.iter().position(|cell| !cell.names_channel(inputs))
+    &rows.as_slice()[output as usize]
 }
 
 impl TryCopy for Setup {

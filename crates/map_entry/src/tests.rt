@@ -1,7 +1,7 @@
 use super::*;
 use io_caps::{
-    Device, DeviceParts, Input, Inputs, Labels, NoMemory, Or, Output, Outputs, Parent, Rate,
-    Routable, Text, TryCopy, Width,
+    Choices, Device, DeviceParts, Input, Inputs, Labels, NoMemory, Or, Output, Outputs, Parent,
+    Rate, Routable, Text, TryCopy, Width,
 };
 use std::alloc::Global;
 use std::test::Fail;
@@ -25,76 +25,98 @@ fn labels(alloc: Global, channels: usize) -> Result<Labels, NoMemory> {
     Ok(made)
 }
 
+/// An input: its channels, its block size, and whether a block may be reordered.
+type Source = (usize, u8, bool);
+
+const SOURCES: [Source; 5] = [
+    (2, 1, true),
+    (4, 2, false),
+    (4, 4, false),
+    (4, 2, true),
+    (64, 64, false),
+];
+
 fn inputs(alloc: Global) -> Result<Inputs, NoMemory> {
     let mut made = Inputs::new(alloc);
-    made.push(Input {
-        id: text(alloc, b'a')?,
-        name: Text::new(alloc),
-        description: Text::new(alloc),
-        labels: labels(alloc, 2)?,
-        width: Width::L16,
-        payload_type: 96,
-        block_size: 1,
-        reordering: true,
-        parent: Parent::Nobody,
-    })?;
-    Ok(made)
-}
-
-fn outputs(alloc: Global, channels: &[(u8, usize)]) -> Result<Outputs, NoMemory> {
-    let mut made = Outputs::new(alloc);
-    for (id, channels) in channels {
-        made.push(Output {
-            id: text(alloc, *id)?,
+    for (at, (channels, block_size, reordering)) in SOURCES.iter().enumerate() {
+        made.push(Input {
+            id: text(alloc, b"abcde"[at])?,
             name: Text::new(alloc),
             description: Text::new(alloc),
             labels: labels(alloc, *channels)?,
             width: Width::L16,
             payload_type: 96,
-            ssrc: 1,
-            source_id: None,
-            routable: Routable::All,
+            block_size: *block_size,
+            reordering: *reordering,
+            parent: Parent::Nobody,
         })?;
     }
     Ok(made)
 }
 
-/// A device with an input of two channels, and outputs of two and of three.
-fn parts(alloc: Global) -> Result<DeviceParts, NoMemory> {
-    Ok(DeviceParts {
+/// What may be routed to an output: these, or anything.
+type Listed = Option<&'static [Option<u8>]>;
+
+fn routable(alloc: Global, listed: Listed) -> Result<Routable, NoMemory> {
+    match listed {
+        None => Ok(Routable::All),
+        Some(listed) => {
+            let mut made = Choices::new(alloc);
+            for choice in listed {
+                made.push(*choice)?;
+            }
+            Ok(Routable::Only(made))
+        }
+    }
+}
+
+fn output(alloc: Global, id: u8, channels: usize, listed: Listed) -> Result<Output, NoMemory> {
+    Ok(Output {
+        id: text(alloc, id)?,
+        name: Text::new(alloc),
+        description: Text::new(alloc),
+        labels: labels(alloc, channels)?,
+        width: Width::L16,
+        payload_type: 96,
+        ssrc: 1,
+        source_id: None,
+        routable: routable(alloc, listed)?,
+    })
+}
+
+/// A device with the inputs above, an output of one channel, and another.
+fn device(alloc: Global, channels: usize, listed: Listed) -> Result<Device, Fail> {
+    let mut outputs = Outputs::new(alloc);
+    outputs.push(output(alloc, b'x', 1, None)?)?;
+    outputs.push(output(alloc, b'y', channels, listed)?)?;
+    let parts = DeviceParts {
         rate: RATE,
         base: 0,
         hold: 1,
         inputs: inputs(alloc)?,
-        outputs: outputs(alloc, &[(b'x', 2), (b'y', 3)])?,
-    })
-}
-
-fn device(alloc: Global) -> Result<Device, Fail> {
-    match Device::build(alloc, parts(alloc)?) {
+        outputs,
+    };
+    match Device::build(alloc, parts) {
         Ok(device) => Ok(device),
         Err(_) => Err("a device".into()),
     }
 }
 
-fn row(alloc: Global, cells: &[Cell]) -> Result<Row, NoMemory> {
-    let mut made = Row::new(alloc);
-    for cell in cells {
-        made.push(*cell)?;
+/// The fault of a row of the last output, where it has a cell for each channel.
+fn row_fault(device: &Device, row: &Row) -> Result<Option<RowFault>, Fail> {
+    let output = device.outputs() - 1;
+    if row.len() != device.output(output).channels() {
+        return Err("a cell for each channel".into());
     }
-    Ok(made)
+    Ok(check_row(device, output, row).err())
 }
 
-fn rows(alloc: Global, x: &[Cell], y: &[Cell]) -> Result<Rows, NoMemory> {
-    let mut made = Rows::new(alloc);
-    made.push(row(alloc, x)?)?;
-    made.push(row(alloc, y)?)?;
-    Ok(made)
-}
-
-/// Builds a setup with these rows and copies it: the fault, where there is one.
-fn fault(alloc: Global, x: &[Cell], y: &[Cell]) -> Result<Option<SetupFault>, Fail> {
-    match Setup::build(alloc, device(alloc)?, rows(alloc, x, y)?) {
+/// Builds a setup with these base rows, and copies it: the fault, where there is one.
+fn setup_fault(alloc: Global, device: Device, x: Row, y: Row) -> Result<Option<SetupFault>, Fail> {
+    let mut rows = Rows::new(alloc);
+    rows.push(x)?;
+    rows.push(y)?;
+    match Setup::build(alloc, device, rows) {
         Ok(setup) => {
             setup.copy()?;
             Ok(None)
@@ -102,6 +124,201 @@ fn fault(alloc: Global, x: &[Cell], y: &[Cell]) -> Result<Option<SetupFault>, Fa
         Err(Or::Fault(fault)) => Ok(Some(fault)),
         Err(Or::NoMemory) => Err("memory".into()),
     }
+}
+
+/// The fault of a row, which a setup with this base row has too.
+fn fault(alloc: Global, listed: Listed, places: &[Place]) -> Result<Option<RowFault>, Fail> {
+    let device = device(alloc, places.len(), listed)?;
+    let row = cells(alloc, places)?;
+    let fault = row_fault(&device, &row)?;
+    let base = fault.map(|fault| SetupFault::BaseRow { output: 1, fault });
+    if setup_fault(alloc, device, cells(alloc, &[N])?, row)? == base {
+        Ok(fault)
+    } else {
+        Err("the same fault of a base row".into())
+    }
+}
+
+/// An input with a channel of it; or unrouted.
+type Place = (u8, u8);
+
+const N: Place = (255, 0);
+
+/// The cells of these places.
+fn cells(alloc: Global, places: &[Place]) -> Result<Row, NoMemory> {
+    let mut made = Row::new(alloc);
+    for (input, channel) in places {
+        made.push(match *input {
+            255 => Cell::Unrouted,
+            input => Cell::From {
+                input,
+                channel: *channel,
+            },
+        })?;
+    }
+    Ok(made)
+}
+
+/// Inputs 1 and 3 have blocks of two channels, which may be reordered in 3 alone; 2 has one of
+/// four.
+const ROWS: [(Listed, &[Place], Option<RowFault>); 33] = [
+    // each fault alone
+    (None, &[(9, 0)], Some(RowFault::Input(0))),
+    (None, &[N, (0, 2)], Some(RowFault::Channel(1))),
+    (
+        Some(&[None, Some(1)]),
+        &[N, (0, 1)],
+        Some(RowFault::NotRoutable(1)),
+    ),
+    (None, &[(1, 0), N], Some(RowFault::Block(0))),
+    (None, &[(1, 1), (1, 0)], Some(RowFault::Order(0))),
+    // two at once, and the lowest channel of the first
+    (None, &[(0, 2), (9, 0)], Some(RowFault::Input(1))),
+    (Some(&[]), &[N, (0, 2), (0, 2)], Some(RowFault::Channel(1))),
+    (
+        Some(&[None]),
+        &[(1, 0), (0, 0)],
+        Some(RowFault::NotRoutable(0)),
+    ),
+    (None, &[(1, 1), (1, 0), (3, 0)], Some(RowFault::Block(2))),
+    (None, &[N, (9, 0), (9, 0)], Some(RowFault::Input(1))),
+    // lists: empty, without null, with an input twice
+    (Some(&[]), &[N], Some(RowFault::NotRoutable(0))),
+    (
+        Some(&[Some(0)]),
+        &[(0, 0), N],
+        Some(RowFault::NotRoutable(1)),
+    ),
+    (Some(&[None]), &[N, N], None),
+    (Some(&[Some(0), Some(0), None]), &[(0, 0), N, (0, 0)], None),
+    // blocks of one channel
+    (None, &[(0, 1)], None),
+    (None, &[(0, 1), (0, 1), (0, 0)], None),
+    // blocks of two
+    (None, &[(1, 2), (1, 3)], None),
+    (None, &[N, (1, 0), (1, 1)], None),
+    (None, &[(1, 2), (1, 3), (1, 0), (1, 1)], None),
+    (None, &[(1, 0), (1, 1), (1, 0), (1, 1)], None),
+    (None, &[(1, 1), (1, 2)], Some(RowFault::Block(0))),
+    (None, &[(1, 0), (0, 0), (1, 1)], Some(RowFault::Block(0))),
+    (None, &[(1, 0), (1, 1), (1, 2)], Some(RowFault::Block(2))),
+    (None, &[(3, 1), (3, 1)], Some(RowFault::Block(0))),
+    (None, &[(3, 1), (3, 0)], None),
+    (
+        None,
+        &[(3, 1), (3, 0), (1, 3), (1, 2)],
+        Some(RowFault::Order(2)),
+    ),
+    (
+        None,
+        &[(1, 0), (3, 0), (3, 1), (1, 1)],
+        Some(RowFault::Block(0)),
+    ),
+    // blocks of four
+    (None, &[(2, 0), (2, 1), (2, 2), (2, 3)], None),
+    (
+        None,
+        &[(2, 0), (2, 2), (2, 1), (2, 3)],
+        Some(RowFault::Order(0)),
+    ),
+    (
+        None,
+        &[(2, 0), (2, 1), (2, 2), (2, 2)],
+        Some(RowFault::Block(0)),
+    ),
+    (None, &[(2, 0), (2, 1), (2, 3)], Some(RowFault::Block(0))),
+    (None, &[N, (2, 0), (2, 1), (2, 2), (2, 3)], None),
+    (
+        None,
+        &[(2, 3), (2, 2), (2, 1), (2, 0)],
+        Some(RowFault::Order(0)),
+    ),
+];
+
+#[test]
+fn rows_checked(rt: HostRuntime) -> Result<(), Fail> {
+    for (at, (listed, places, found)) in ROWS.iter().enumerate() {
+        assert_eq!(rt; fault(rt.alloc(), *listed, places)?, *found, "row {at}");
+    }
+    Ok(())
+}
+
+/// Of a device whose second input has four channels in blocks of two, in order.
+#[test]
+fn blocks_and_order(rt: HostRuntime) -> Result<(), Fail> {
+    for (places, found) in [
+        ([(1, 0), N], Some(RowFault::Block(0))),
+        ([(1, 1), (1, 0)], Some(RowFault::Order(0))),
+        ([(1, 2), (1, 3)], None),
+        ([(1, 2), N], Some(RowFault::Block(0))),
+    ] {
+        assert_eq!(rt; fault(rt.alloc(), None, &places)?, found);
+    }
+    Ok(())
+}
+
+#[test]
+fn rows_of_64_channels(rt: HostRuntime) -> Result<(), Fail> {
+    let mut places = [N; 64];
+    assert_eq!(rt; fault(rt.alloc(), None, &places)?, None);
+    for (at, place) in places.iter_mut().enumerate() {
+        *place = (4, at as u8);
+    }
+    assert_eq!(rt; fault(rt.alloc(), None, &places)?, None);
+    // The last two the other way round, the last twice, and without the last.
+    for (low, high, found) in [
+        ((4, 63), (4, 62), RowFault::Order(0)),
+        ((4, 63), (4, 63), RowFault::Block(0)),
+        ((4, 62), N, RowFault::Block(0)),
+        (N, (4, 64), RowFault::Channel(63)),
+    ] {
+        places[62] = low;
+        places[63] = high;
+        assert_eq!(rt; fault(rt.alloc(), None, &places)?, Some(found));
+    }
+    Ok(())
+}
+
+#[test]
+fn base_rows(rt: HostRuntime) -> Result<(), Fail> {
+    let alloc = rt.alloc();
+    // a cell too many, and then the lowest output at fault
+    for (x, y, found) in [
+        (&[N, N] as &[Place], [(9, 0), (9, 0)], SetupFault::Count),
+        (
+            &[(0, 2)],
+            [(9, 0), (9, 0)],
+            SetupFault::BaseRow {
+                output: 0,
+                fault: RowFault::Channel(0),
+            },
+        ),
+        (
+            &[(0, 1)],
+            [(0, 0), (0, 2)],
+            SetupFault::BaseRow {
+                output: 1,
+                fault: RowFault::Channel(1),
+            },
+        ),
+    ] {
+        let x = cells(alloc, x)?;
+        let y = cells(alloc, &y)?;
+        let fault = setup_fault(alloc, device(alloc, 2, None)?, x, y)?;
+        assert_eq!(rt; fault, Some(found));
+    }
+    Ok(())
+}
+
+#[test]
+fn fault_texts(rt: HostRuntime) -> Result<(), Fail> {
+    let fault = RowFault::Block(2);
+    let text = format!(in rt.alloc(); "{}", SetupFault::BaseRow { output: 1, fault })?;
+    assert_eq!(rt;
+        text.as_str(),
+        "output 1: channel 2 begins a piece that is no whole block"
+    );
+    Ok(())
 }
 
 const NONE: Cell = Cell::Unrouted;
@@ -116,53 +333,12 @@ const RIGHT: Cell = Cell::From {
     channel: 1,
 };
 
-const THIRD: Cell = Cell::From {
-    input: 0,
-    channel: 2,
-};
-
-const OTHER: Cell = Cell::From {
-    input: 1,
-    channel: 0,
-};
-
-#[test]
-fn setups(rt: HostRuntime) -> Result<(), Fail> {
-    let alloc = rt.alloc();
-    assert_eq!(rt; fault(alloc, &[NONE, RIGHT], &[NONE, LEFT, LEFT])?, None);
-    assert_eq!(rt;
-        fault(alloc, &[NONE, RIGHT], &[LEFT, LEFT])?,
-        Some(SetupFault::Count)
-    );
-    let bad = SetupFault::BaseRow {
-        output: 1,
-        fault: RowFault::Input(2),
-    };
-    assert_eq!(rt;
-        fault(alloc, &[NONE, NONE], &[NONE, THIRD, OTHER])?,
-        Some(bad)
-    );
-    let bad = SetupFault::BaseRow {
-        output: 0,
-        fault: RowFault::Channel(1),
-    };
-    assert_eq!(rt;
-        fault(alloc, &[NONE, THIRD], &[NONE, NONE, OTHER])?,
-        Some(bad)
-    );
-    // the lowest output, and its lowest channel with the first of the checks that fail
-    for (x, y, output, fault_of) in [
-        ([OTHER, OTHER], [OTHER, NONE, NONE], 0, RowFault::Input(0)),
-        ([NONE, NONE], [THIRD, OTHER, OTHER], 1, RowFault::Input(1)),
-        ([NONE, NONE], [NONE, THIRD, THIRD], 1, RowFault::Channel(1)),
-    ] {
-        let bad = SetupFault::BaseRow {
-            output,
-            fault: fault_of,
-        };
-        assert_eq!(rt; fault(alloc, &x, &y)?, Some(bad));
+fn row(alloc: Global, cells: &[Cell]) -> Result<Row, NoMemory> {
+    let mut made = Row::new(alloc);
+    for cell in cells {
+        made.push(*cell)?;
     }
-    Ok(())
+    Ok(made)
 }
 
 fn entries(alloc: Global, list: &[(u64, Cell)]) -> Result<Entries, NoMemory> {

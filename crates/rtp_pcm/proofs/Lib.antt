@@ -1,1 +1,4 @@
+pub mod PacketLaws
+pub mod PcmLaws
+pub mod ReadingLaws
 pub mod Readings

@@ -2,7 +2,7 @@
 use Rattle.std.proofs.Common.{◌≡◌, true, false, List, ℕ, IfOk, OnErr, IsOk, IsOkAnd, Result, Ok, Err, refl, sym, subst}
 use Rattle.rtp_pcm.specs.declared.packet.Head.{Head}
 use Rattle.rtp_pcm.specs.Packet.{IsHead, IsRtp, rtp_packet}
-use Rattle.rtp_pcm.specs.PacketLaws.{rtp_packet-IsRtp}
+use Rattle.rtp_pcm.proofs.PacketLaws.{rtp_packet-IsRtp}
 
 pub found : {P E : Type 0} (r : Result P E) (A : Type 0) (Q R : P → Type 0) → (IsOk r → A) → IfOk r Q → (A → (p : P) → Q p → R p) → IfOk r R
 found (Ok p) A Q R ok parts step = step (ok refl) p parts

@@ -1,7 +1,4 @@
-pub mod Pcm
-pub mod PcmLaws
 pub mod Packet
+pub mod Pcm
 pub mod Places
-pub mod PacketLaws
 pub mod Reading
-pub mod ReadingLaws

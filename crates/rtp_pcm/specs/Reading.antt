@@ -10,12 +10,15 @@ pub record RtpReading : Type 0 where
   pub marker : Bool
   pub payload : List ℕ
 
+-- The fixed part, the version and the CSRC part are there.
 abbrev pub has_csrcs : List ℕ → Bool
 has_csrcs bytes = nat_le 12 (length bytes) && (version bytes == 2) && nat_le (csrc_end bytes) (length bytes)
 
+-- The extension is there, or none is said to be.
 abbrev pub has_extension : List ℕ → Bool
 has_extension bytes = not (is_extended bytes) || nat_le (extension_length (behind_csrcs bytes)) (length (behind_csrcs bytes))
 
+-- The padding is there, or none is said to be.
 abbrev pub has_padding : List ℕ → Bool
 has_padding bytes =
     not (is_padded bytes) || (nat_le 1 (last_byte (behind_extension bytes)) && nat_le (last_byte (behind_extension bytes)) (length (behind_extension bytes)))

@@ -9,6 +9,7 @@ ghost use Rattle.rtp_pcm.specs.declared.packet.Head.{Head};
 ghost use Rattle.rtp_pcm.specs.declared.packet.RtpFault.TheVariants.{Short, Version, CsrcCut, ExtensionCut, Padding};
 
 use byteorder::{BigEndian, ByteOrder};
+use thiserror::Error;
 
 /// The bytes of the fixed part of a head.
 pub const HEAD_LEN: usize = 12;
@@ -55,17 +56,22 @@ pub struct Packet<'a> {
 }
 
 /// Why bytes are no packet.
-#[derive(Clone, Copy, Debug, PartialEq, Eq)]
+#[derive(Clone, Copy, Debug, PartialEq, Eq, Error)]
 pub enum RtpFault {
     /// Under 12 bytes.
+    #[error("the bytes end within the fixed part of the head")]
     Short,
     /// The version is not 2.
+    #[error("the version is not 2")]
     Version,
     /// The bytes end within the CSRC part.
+    #[error("the bytes end within the contributing sources")]
     CsrcCut,
     /// The bytes end within the extension part.
+    #[error("the bytes end within the extension")]
     ExtensionCut,
     /// The padding bit is set, and the last byte behind the head is missing, 0, or more than the bytes there.
+    #[error("the count of padding is missing, 0, or more than the bytes there")]
     Padding,
 }
 

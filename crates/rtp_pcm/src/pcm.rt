@@ -6,12 +6,14 @@ ghost use Rattle.rtp_pcm.specs.Pcm.{IsSample, sample_of, bytes_of_sample, kept_s
 
 use byteorder::{BigEndian, ByteOrder};
 use io_caps::Width;
+use thiserror::Error;
 
 /// What a sample of 16 bits is multiplied by inside the device.
 const L16_SCALE: i32 = 256;
 
 /// The payload ends within a frame.
-#[derive(Clone, Copy, Debug, PartialEq, Eq)]
+#[derive(Clone, Copy, Debug, PartialEq, Eq, Error)]
+#[error("the payload ends within a frame")]
 pub struct PartFrame;
 
 /// The sample in the bytes of one: 2 bytes of L16 (RFC 3551 section 4.5.11), taken times 256, or 3 bytes of L24 (RFC

@@ -4,9 +4,9 @@ use Rattle.std.specs.Str.Parse.{digits_value}
 use Rattle.io_caps.specs.declared.rate.Rate.{Rate}
 use Rattle.io_caps.specs.Rate.{IsRate}
 use Rattle.tai_time.specs.Time.{TaiTime, IsTai, IsTaiText, nanos_of, time_of, HasColon, HasSecs, secs_part, nanos_part}
-use Rattle.tai_time.specs.TimeLaws.{IsTaiText-says, says-IsTaiText, same_time, nanos_of-time_of}
+use Rattle.tai_time.proofs.TimeLaws.{IsTaiText-says, says-IsTaiText, same_time, nanos_of-time_of}
 use Rattle.tai_time.specs.Tick.{tick_start, tick_up, tick_of, IsTickUp, IsTickOf}
-use Rattle.tai_time.specs.TickLaws.{tick_up-least, tick_of-greatest, tick_up-start}
+use Rattle.tai_time.proofs.TickLaws.{tick_up-least, tick_of-greatest, tick_up-start}
 
 pub least_at : (rate : Rate) (nanos tick : ℕ) → IsRate rate → tick ≡ tick_up rate nanos → IsTickUp rate nanos tick
 least_at rate nanos tick h e = subst (IsTickUp rate nanos) (sym e) (tick_up-least rate nanos h)

@@ -1,1 +1,4 @@
 pub mod Answering
+pub mod TickLaws
+pub mod TimeLaws
+pub mod UnitLaws

@@ -1,6 +1,3 @@
-pub mod Time
-pub mod TimeLaws
-pub mod Unit
-pub mod UnitLaws
 pub mod Tick
-pub mod TickLaws
+pub mod Time
+pub mod Unit

@@ -15,8 +15,10 @@ tick_up rate nanos = unit_up rate.frames rate.hz nanos
 abbrev pub tick_of : Rate → ℕ → ℕ
 tick_of rate nanos = unit_of rate.frames rate.hz nanos
 
+-- The tick is the least that begins at or after a time in nanoseconds.
 abbrev pub IsTickUp : Rate → ℕ → ℕ → Type 0
 IsTickUp rate nanos tick = IsUnitUp rate.frames rate.hz nanos tick
 
+-- The tick is the greatest that begins at or before a time in nanoseconds.
 abbrev pub IsTickOf : Rate → ℕ → ℕ → Type 0
 IsTickOf rate nanos tick = IsUnitOf rate.frames rate.hz nanos tick

@@ -20,10 +20,11 @@ secs_limit = 2 ^ 40
 abbrev pub IsTai : TaiTime → Type 0
 IsTai time = (time.secs < secs_limit) × (time.nanos < second)
 
--- A time in nanoseconds, and the time of so many nanoseconds.
+-- A time in nanoseconds.
 abbrev pub nanos_of : TaiTime → ℕ
 nanos_of time = time.secs * second + time.nanos
 
+-- The time of so many nanoseconds.
 abbrev pub time_of : ℕ → TaiTime
 time_of nanos = record { secs = nanos / second; nanos = nanos % second }
 
@@ -54,26 +55,31 @@ pub record IsTaiText (text : List ℕ) (time : TaiTime) : Type 0 where
 
 -- ---- the faults of a text
 
+-- whether a byte is a colon
 abbrev pub is_colon : ℕ → Bool
 is_colon b = b == colon
 
--- what stands before and after the first colon
+-- what stands before the first colon
 abbrev pub secs_part : List ℕ → List ℕ
 secs_part text = before_first is_colon text
 
+-- what stands after the first colon
 abbrev pub nanos_part : List ℕ → List ℕ
 nanos_part text = after_first is_colon text
 
+-- there is a colon
 abbrev pub HasColon : List ℕ → Type 0
 HasColon text = Contains text colon
 
--- two parts of one digit or more each, and the seconds in their range
+-- two parts of one digit or more each
 abbrev pub AreDigits : List ℕ → List ℕ → Type 0
 AreDigits before after = IsNumeral 10 before × IsNumeral 10 after
 
+-- and the seconds are in their range
 abbrev pub HasSecs : List ℕ → List ℕ → Type 0
 HasSecs before after = AreDigits before after × (digits_value 10 before < secs_limit)
 
+-- there is no colon
 abbrev pub HasNoColon : List ℕ → Type 0
 HasNoColon text = HasColon text → ⊥
 
@@ -81,10 +87,12 @@ HasNoColon text = HasColon text → ⊥
 abbrev pub HasNoDigits : List ℕ → Type 0
 HasNoDigits text = HasColon text × (AreDigits (secs_part text) (nanos_part text) → ⊥)
 
+-- both parts are digits, and the seconds are out of their range
 abbrev pub IsSecsOver : List ℕ → Type 0
 IsSecsOver text =
     HasColon text × AreDigits (secs_part text) (nanos_part text) × (secs_limit ≤ digits_value 10 (secs_part text))
 
+-- the seconds are in their range, and the nanoseconds out of theirs
 abbrev pub IsNanosOver : List ℕ → Type 0
 IsNanosOver text =
     HasColon text × HasSecs (secs_part text) (nanos_part text) × (second ≤ digits_value 10 (nanos_part text))

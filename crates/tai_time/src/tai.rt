@@ -10,6 +10,7 @@ ghost use Rattle.tai_time.specs.declared.tai.TaiFault.TheVariants.{NoColon, NotD
 use io_caps::{NoMemory, TryCopy};
 use itoa::write_digits;
 use std::marker::Model;
+use thiserror::Error;
 
 /// The nanoseconds of a second. The nanoseconds of a time are below it.
 pub const NANOS_PER_SECOND: u32 = 1_000_000_000;
@@ -46,15 +47,19 @@ impl Model for Tai {
 }
 
 /// Why a text is no time.
-#[derive(Clone, Copy, Debug, PartialEq, Eq)]
+#[derive(Clone, Copy, Debug, PartialEq, Eq, Error)]
 pub enum TaiFault {
     /// There is no `:`.
+    #[error("there is no colon")]
     NoColon,
     /// The part before or after the first `:` is empty or has a byte that is no digit.
+    #[error("a part is empty or has a byte that is no digit")]
     NotDigits,
     /// There are 2^40 seconds or more.
+    #[error("the seconds are 2^40 or more")]
     SecsRange,
     /// There are 10^9 nanoseconds or more.
+    #[error("the nanoseconds are 10^9 or more")]
     NanosRange,
 }
 

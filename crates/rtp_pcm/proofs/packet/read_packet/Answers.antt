@@ -1,8 +1,8 @@
 use Rattle.std.proofs.Common.{◌∙◌, arith}
 use Rattle.rtp_pcm.specs.Places.{HasAllParts}
-use Rattle.rtp_pcm.specs.PacketLaws.{IsRtp-stands, HasAllParts-IsRtp}
+use Rattle.rtp_pcm.proofs.PacketLaws.{IsRtp-stands, HasAllParts-IsRtp}
 use Rattle.rtp_pcm.proofs.Readings.{found, missing, only}
-use Rattle.rtp_pcm.specs.ReadingLaws.{reading-there, reading-missing}
+use Rattle.rtp_pcm.proofs.ReadingLaws.{reading-there, reading-missing}
 use Rattle.rtp_pcm.proofs.packet.read_packet.Goals as goal
 
 pub returns-clause-found : goal.returns-clause-found

@@ -1,6 +1,6 @@
 use Rattle.std.proofs.Common.{◌+◌, ℕ, take, drop, sym, ap, ◌∙◌, rules}
 use Rattle.std.proofs.lemmas.List.{take_rest}
-use Rattle.tai_time.specs.TimeLaws.{colon_found, colon_missing}
+use Rattle.tai_time.proofs.TimeLaws.{colon_found, colon_missing}
 use Rattle.tai_time.proofs.tai.cut_at_colon.Goals as goal
 
 pub returns-in_err-at-clause-none : goal.returns-in_err-at-clause-none

@@ -2,7 +2,7 @@ use Rattle.std.proofs.Common.{◌≡◌, ◌≤◌, ℕ, ◌+◌, ◌-◌, List,
 use Rattle.std.specs.Prelude.{decimal}
 use Rattle.std.proofs.lemmas.Fmt.{length-decimal-le}
 use Rattle.std.proofs.lemmas.List.{append-nil, length-set, drop-set, drop_all}
-use Rattle.tai_time.specs.TimeLaws.{tai_text-IsTaiText}
+use Rattle.tai_time.proofs.TimeLaws.{tai_text-IsTaiText}
 use Rattle.tai_time.proofs.tai.put_text.Goals as goal
 
 -- the text, from what the two calls and the colon between them left

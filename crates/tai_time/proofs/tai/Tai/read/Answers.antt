@@ -1,4 +1,4 @@
-use Rattle.tai_time.specs.TimeLaws.{IsTaiText-says}
+use Rattle.tai_time.proofs.TimeLaws.{IsTaiText-says}
 use Rattle.tai_time.proofs.Answering.{found_at, only_at}
 use Rattle.tai_time.proofs.tai.Tai.read.Goals as goal
 

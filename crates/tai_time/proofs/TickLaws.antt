@@ -2,7 +2,7 @@
 use Rattle.std.proofs.Common.{◌≡◌, ◌≤◌, ℕ, arith}
 use Rattle.io_caps.specs.declared.rate.Rate.{Rate}
 use Rattle.io_caps.specs.Rate.{IsRate}
-use Rattle.tai_time.specs.UnitLaws.{unit_up-least, unit_up-only, unit_up-start, unit_up-rises, unit_of-greatest, unit_of-only, unit_of-rises}
+use Rattle.tai_time.proofs.UnitLaws.{unit_up-least, unit_up-only, unit_up-start, unit_up-rises, unit_of-greatest, unit_of-only, unit_of-rises}
 use Rattle.tai_time.specs.Tick.{tick_start, tick_up, tick_of, IsTickUp, IsTickOf}
 
 -- A second has no more frames than nanoseconds, so a frame is no shorter than a nanosecond.

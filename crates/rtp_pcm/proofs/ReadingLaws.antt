@@ -4,7 +4,7 @@ use Rattle.std.specs.Prelude.{nat_le, ◌==◌, IsTrue}
 use Rattle.std.proofs.lemmas.Bool.{and_parts, and_from, eqb-true}
 use Rattle.rtp_pcm.specs.declared.packet.Head.{Head}
 use Rattle.rtp_pcm.specs.Packet.{IsRtp}
-use Rattle.rtp_pcm.specs.PacketLaws.{IsBytes, IsRtp-stands, HasAllParts-IsRtp}
+use Rattle.rtp_pcm.proofs.PacketLaws.{IsBytes, IsRtp-stands, HasAllParts-IsRtp}
 use Rattle.rtp_pcm.specs.Places.{version, is_padded, is_extended, is_marked, head_in, csrc_end, behind_csrcs, extension_length, behind_extension, last_byte, payload_in, HasAllParts, IsPadded}
 use Rattle.rtp_pcm.specs.Reading.{RtpReading, has_csrcs, has_extension, has_padding, has_all_parts, reading_of}
 

@@ -148,6 +148,7 @@ rtp_packet-IsRtp head payload h = record {
 
 -- ---- from the places to the layout
 
+-- each number is a byte
 abbrev pub IsBytes : List ℕ → Type 0
 IsBytes bytes = (i : ℕ) → slice_index bytes i < 256
 
