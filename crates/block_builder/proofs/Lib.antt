@@ -1,0 +1,17 @@
+pub mod Ranges
+pub mod BlockLaws
+pub mod Holders
+pub mod Frames
+pub mod Samples
+pub mod Filling
+pub mod Blank
+pub mod Windows
+pub mod Touched
+pub mod Fresh
+pub mod Partly
+pub mod Builders
+pub mod Intakes
+pub mod NewFrames
+pub mod Walks
+pub mod Runs
+pub mod Yardsticks
