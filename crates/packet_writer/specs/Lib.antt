@@ -1,0 +1,5 @@
+pub mod Flags
+pub mod Heard
+pub mod Packet
+pub mod Piece
+pub mod Slots
