@@ -6,6 +6,5 @@ pub mod PlainLaws
 pub mod RecordLaws
 pub mod RecordLoop
 pub mod ResultText
-pub mod Rising
 pub mod Shown
 pub mod Whole

@@ -1,10 +1,11 @@
 -- Captures of the plain form fit the fields of their records.
-use Rattle.std.proofs.Common.{◌≡◌, ℕ, zero, suc, ◌*◌, ◌^◌, ◌<◌, ◌≤◌, List, [], ◌∷◌, ◌++◌, length, get_or, Option, Some, None, sym, ap, subst, arith}
+use Rattle.std.proofs.Common.{◌≡◌, ℕ, zero, suc, ◌+◌, ◌*◌, ◌^◌, ◌<◌, ◌≤◌, List, [], ◌∷◌, ◌++◌, length, get_or, Option, Some, None, sym, ap, subst, arith}
 use Rattle.std.specs.Prelude.{All, IsSomeAnd, slice_get}
 use Rattle.std.specs.List.{flat_map, AllByRecursion, AllZip, zip}
 use Rattle.std.proofs.lemmas.List.{length-append}
 use Rattle.std.proofs.lemmas.List.Concat.{flat_map-cons}
 use Rattle.std.proofs.lemmas.List.Elements.{recursion_from_All, All-from_recursion}
+use Rattle.std.proofs.lemmas.Option.{slice_get-get_or}
 use Rattle.std.proofs.lemmas.Slice.Zip.{AllZip-long}
 use Rattle.byteorder.specs.Endian.{big_bytes}
 use Rattle.byteorder.specs.Numbers.{length-bytes_high_first}
@@ -14,13 +15,18 @@ use Rattle.io_caps.specs.declared.port.Output.{Output}
 use Rattle.io_caps.specs.declared.port.Routable.{Routable}
 use Rattle.io_caps.specs.declared.port.Routable.TheVariants.{All as Anything, Only}
 use Rattle.io_caps.specs.declared.device.DeviceParts.{DeviceParts}
+use Rattle.io_caps.specs.declared.limits.TheConstants.{MOST_INPUTS, MOST_CHANNELS, TICKS_PAST_BASE}
+use Rattle.io_caps.specs.Device.{IsBase}
+use Rattle.std.proofs.Math.Nat.{mul-le-mul}
 use Rattle.io_caps.specs.Port.{IsId, AreChannels, IsPayloadType}
 use Rattle.io_caps.specs.Rate.{IsRate}
 use Rattle.map_entry.specs.declared.cell.Cell.{Cell}
 use Rattle.map_entry.specs.declared.cell.Cell.TheVariants.{Unrouted, From}
 use Rattle.map_entry.specs.declared.change.Change.{Change}
 use Rattle.map_entry.specs.Action.{OutputChangeParts, IsOutputChange, IsAction}
-use Rattle.map_entry.specs.Setup.{HasCells, NamesChannel}
+use Rattle.map_entry.specs.Row.{IsChannelThere}
+use Rattle.map_entry.specs.Setup.{HasCells, IsSetup, SetupParts}
+use Rattle.map_entry.proofs.Channels.{channel_there, passed_there}
 use Rattle.capture_file.specs.declared.device.Target.{Target}
 use Rattle.capture_file.specs.declared.records.Item.{Item}
 use Rattle.capture_file.specs.declared.records.Item.TheVariants.{Packet, Ask, Work}
@@ -47,33 +53,44 @@ both P Q R (x ∷ xs) f h k = (f x h.0 k.0, both P Q R xs f h.1 k.1)
 rate_fits : (r : Rate) → IsRate r → (r.hz < 256 ^ 4) × (r.frames < 256 ^ 2)
 rate_fits r h = (omega arith, omega arith)
 
+-- time ends before 8 bytes do
+base_fits : (r : Rate) (base : ℕ) → IsRate r → IsBase r base → base < 256 ^ 8
+base_fits r base rate is =
+    let within : (base + TICKS_PAST_BASE) * 1 ≤ (base + TICKS_PAST_BASE) * r.frames = mul-le-mul (omega arith) rate.1 in
+    omega (arith, within, rate.0, is)
+
 input_fits : (i : Input) → IsPlainInput i → IsId i.id → AreChannels i.labels → IsPayloadType i.payload_type → FitsInput i
-input_fits i plain id channels payload_type = (plain.0, (omega (arith, id.1), (omega (arith, channels.1), (omega (arith, payload_type), (omega (arith, plain.1.1), tt)))))
+input_fits i plain id channels payload_type = (plain.0, (omega (arith, id.1), (omega (arith, channels.1), (omega (arith, payload_type), (omega (arith, plain.1.0), tt)))))
 
 -- a channel that is there
-channel_in : (inputs : List Input) (k channel : ℕ) → AllByRecursion (λ i. AreChannels i.labels) inputs → IsSomeAnd (slice_get inputs k) (λ i. channel < length i.labels) → (k < length inputs) × (channel < 64)
+channel_in : (inputs : List Input) (k channel : ℕ) → AllByRecursion (λ i. AreChannels i.labels) inputs → IsSomeAnd (slice_get inputs k) (λ i. channel < length i.labels) → (k < length inputs) × (channel < MOST_CHANNELS)
 channel_in [] k channel all h = absurd h
 channel_in (i ∷ inputs) zero channel all h = (omega arith, omega (arith, h, all.0.1))
 channel_in (i ∷ inputs) (suc k) channel all h = let t = channel_in inputs k channel all.1 h in (omega (arith, t.0), t.1)
 
-cell_fits : (inputs : List Input) (cell : Cell) → length inputs ≤ 16 → AllByRecursion (λ i. AreChannels i.labels) inputs → NamesChannel inputs cell → FitsCell cell
+cell_fits : (inputs : List Input) (cell : Cell) → length inputs ≤ MOST_INPUTS → AllByRecursion (λ i. AreChannels i.labels) inputs → IsChannelThere inputs cell → FitsCell cell
 cell_fits inputs Unrouted few all h = tt
-cell_fits inputs (From input channel) few all h = let t = channel_in inputs input channel all h in (omega (arith, t.0), omega (arith, t.1))
+cell_fits inputs (From input channel) few all h = let t = channel_in inputs input channel all (channel_there inputs input channel h) in (omega (arith, t.0), omega (arith, t.1))
 
 abbrev GoodOutput : Output → Type 0
 GoodOutput o = IsPlainOutput o × (IsId o.id × (AreChannels o.labels × IsPayloadType o.payload_type))
 
-target_fits : (inputs : List Input) (o : Output) (row : List Cell) → length inputs ≤ 16 → AllByRecursion (λ i. AreChannels i.labels) inputs → GoodOutput o → HasCells o row → All (NamesChannel inputs) row → FitsTarget (record { output = o; row = row })
+target_fits : (inputs : List Input) (o : Output) (row : List Cell) → length inputs ≤ MOST_INPUTS → AllByRecursion (λ i. AreChannels i.labels) inputs → GoodOutput o → HasCells o row → All (IsChannelThere inputs) row → FitsTarget (record { output = o; row = row })
 target_fits inputs o row few all good cells names =
     let routable : FitsRoutable o.routable = subst FitsRoutable (sym good.0.1.0) tt in
-    let row_fits : AllByRecursion FitsCell row = each (NamesChannel inputs) FitsCell row (λ cell h. cell_fits inputs cell few all h) (recursion_from_All (NamesChannel inputs) row names) in
+    let row_fits : AllByRecursion FitsCell row = each (IsChannelThere inputs) FitsCell row (λ cell h. cell_fits inputs cell few all h) (recursion_from_All (IsChannelThere inputs) row names) in
     (good.0.0, (omega (arith, good.1.0.1), (omega (arith, good.1.1.0.1), (omega (arith, good.1.1.1), (omega (arith, good.0.1.1), (routable, (cells, row_fits)))))))
 
-targets_fit : (inputs : List Input) (outputs : List Output) (rows : List (List Cell)) → length inputs ≤ 16 → AllByRecursion (λ i. AreChannels i.labels) inputs → AllByRecursion GoodOutput outputs → AllZip HasCells outputs rows → AllByRecursion (All (NamesChannel inputs)) rows
+targets_fit : (inputs : List Input) (outputs : List Output) (rows : List (List Cell)) → length inputs ≤ MOST_INPUTS → AllByRecursion (λ i. AreChannels i.labels) inputs → AllByRecursion GoodOutput outputs → AllZip HasCells outputs rows → AllByRecursion (All (IsChannelThere inputs)) rows
     → AllByRecursion FitsTarget (targets_of outputs rows)
 targets_fit inputs [] rows few all good cells names = tt
 targets_fit inputs (o ∷ outputs) [] few all good cells names = tt
 targets_fit inputs (o ∷ outputs) (row ∷ rows) few all good cells names = (target_fits inputs o row few all good.0 cells.0 names.0, targets_fit inputs outputs rows few all good.1 cells.1 names.1)
+
+-- the base rows pass the check, so they name channels that are there
+rows_there : (s : SetupParts) → IsSetup s → AllByRecursion (All (IsChannelThere s.device.inputs)) s.rows
+rows_there s is = recursion_from_All (All (IsChannelThere s.device.inputs)) s.rows (λ k d lt.
+    passed_there s.device k (get_or s.rows k d) (rw (slice_get-get_or s.rows k d lt) at (is.passes k lt)))
 
 pub setup_fits : (c : CaptureParts) → IsPlain c → FitsSetup (c.setup.device, c.setup.rows)
 setup_fits c plain =
@@ -87,9 +104,9 @@ setup_fits c plain =
     let inputs_fit : AllByRecursion FitsInput inputs = recursion_from_All FitsInput inputs (λ k d lt. input_fits (get_or inputs k d) (plain.inputs k d lt) (ids.inputs k d lt) (streams.inputs k d lt) (streams.input_types k d lt)) in
     let good : AllByRecursion GoodOutput outputs = recursion_from_All GoodOutput outputs (λ k d lt. (plain.outputs k d lt, (ids.outputs k d lt, (streams.outputs k d lt, streams.output_types k d lt)))) in
     let channels : AllByRecursion (λ i. AreChannels i.labels) inputs = recursion_from_All (λ (i : Input). AreChannels i.labels) inputs streams.inputs in
-    let names = recursion_from_All (All (NamesChannel inputs)) c.setup.rows setup.cells in
+    let names = rows_there c.setup setup in
     let targets : AllByRecursion FitsTarget (targets_of outputs c.setup.rows) = targets_fit inputs outputs c.setup.rows bounds.few_inputs channels good setup.count names in
-    (AllZip-long HasCells outputs c.setup.rows setup.count, (rate.0, (rate.1, (omega (arith, plain.base), (omega (arith, bounds.hold), (omega (arith, bounds.few_inputs), (omega (arith, bounds.few_outputs), (inputs_fit, (targets, tt)))))))))
+    (AllZip-long HasCells outputs c.setup.rows setup.count, (rate.0, (rate.1, (base_fits c.setup.device.rate c.setup.device.base bounds.rate bounds.base, (omega (arith, bounds.hold), (omega (arith, bounds.few_inputs), (omega (arith, bounds.few_outputs), (inputs_fit, (targets, tt)))))))))
 
 -- ---- how long the texts are
 
@@ -179,18 +196,16 @@ tested_plain c tested setup items =
     let outputs = All-from_recursion FitsOutput c.setup.device.outputs (outputs_fit c.setup.device.outputs c.setup.rows setup.0 setup.1.1.1.1.1.1.1.1.0) in
     record {
       valid = record { setup = tested.0.1; work = tested.1.0; few = tested.1.1; there = tested.2.there };
-      base = tested.0.0.0;
-      inputs = λ k d lt. ((inputs k d lt).0, tested.0.0.1 k d lt);
-      outputs = λ k d lt. ((outputs k d lt).0, (tested.0.0.2 k d lt, (outputs k d lt).1));
+      inputs = λ k d lt. ((inputs k d lt).0, tested.0.0.0 k d lt);
+      outputs = λ k d lt. ((outputs k d lt).0, (tested.0.0.1 k d lt, (outputs k d lt).1));
       items = tested.2.each;
-      rising = tested.2.rising;
       entries = tested.2.entries;
       fits = each ReadsItem FitsItem c.items item_fits items;
     }
 
 pub plain_tested : (c : CaptureParts) → IsPlain c → IsTested c
 plain_tested c plain = (
-  ((plain.base, (λ k d lt. (plain.inputs k d lt).1), (λ k d lt. (plain.outputs k d lt).1.0)), plain.valid.setup),
+  (((λ k d lt. (plain.inputs k d lt).1), (λ k d lt. (plain.outputs k d lt).1.0)), plain.valid.setup),
   (plain.valid.work, plain.valid.few),
-  record { there = plain.valid.there; each = plain.items; rising = plain.rising; entries = plain.entries },
+  record { there = plain.valid.there; each = plain.items; entries = plain.entries },
 )

@@ -6,7 +6,7 @@ use Rattle.map_entry.specs.Setup.{SetupParts, IsSetup}
 use Rattle.capture_file.specs.declared.records.Item.{Item}
 use Rattle.capture_file.specs.declared.records.Item.TheVariants.{Packet, Ask, Work}
 use Rattle.capture_file.specs.declared.tags.TheConstants.{DEVICE}
-use Rattle.capture_file.specs.declared.limits.TheConstants.{MOST_TICKS, MOST_CLIENTS}
+use Rattle.io_caps.specs.declared.limits.TheConstants.{CAPTURE_TICKS, CLIENTS}
 use Rattle.capture_file.specs.Device.{device_text}
 use Rattle.capture_file.specs.Records.{item_text, end_text}
 
@@ -25,7 +25,7 @@ claims_of (Work claims) = claims
 -- a packet's input is there, and a client's number is one
 abbrev pub IsItemThere : ℕ → Item → Type 0
 IsItemThere inputs (Packet input bytes) = input < inputs
-IsItemThere inputs (Ask client request) = client < MOST_CLIENTS
+IsItemThere inputs (Ask client request) = client < CLIENTS
 IsItemThere inputs (Work claims) = Unit {0}
 
 -- The device and its base rows are in order, the claims are those of whole ticks, of which there are not too many, and the
@@ -33,7 +33,7 @@ IsItemThere inputs (Work claims) = Unit {0}
 pub record IsCapture (c : CaptureParts) : Type 0 where
   pub setup : IsSetup c.setup
   pub work : sum_by claims_of c.items ≡ c.ticks * length c.setup.device.outputs
-  pub few : c.ticks ≤ MOST_TICKS
+  pub few : c.ticks ≤ CAPTURE_TICKS
   pub there : All (IsItemThere (length c.setup.device.inputs)) c.items
 
 -- the first bytes of a capture

@@ -15,10 +15,12 @@ use Rattle.map_entry.specs.declared.cell.Cell.{Cell}
 use Rattle.map_entry.specs.declared.cell.Cell.TheVariants.{Unrouted, From}
 use Rattle.capture_file.specs.declared.tags.TheConstants.{BITS_16, BITS_24, ALL_ROUTABLE, UNROUTED_MEMBER, UNROUTED_INPUT}
 
+-- the byte of a width: 16 (L16) or 24 (L24)
 abbrev pub width_bits : Width → ℕ
 width_bits L16 = BITS_16
 width_bits L24 = BITS_24
 
+-- the byte of a flag: 1 where it is set, and 0 otherwise
 abbrev pub flag_byte : Bool → ℕ
 flag_byte true = 1
 flag_byte false = 0
@@ -32,6 +34,7 @@ abbrev pub cell_text : Cell → List ℕ
 cell_text Unrouted = UNROUTED_INPUT ∷ 0 ∷ []
 cell_text (From input channel) = input ∷ channel ∷ []
 
+-- the cells of a row, in channel order
 abbrev pub row_text : List Cell → List ℕ
 row_text row = flat_map cell_text row
 

@@ -15,9 +15,11 @@ use Rattle.capture_file.specs.declared.device.Target.{Target}
 use Rattle.capture_file.specs.declared.tags.TheConstants.{BITS_16, BITS_24, ALL_ROUTABLE, UNROUTED_MEMBER, UNROUTED_INPUT}
 use Rattle.capture_file.specs.Device.{numbered}
 
+-- a width: the byte 16 or 24, and no other
 abbrev pub width_at : List ℕ → Option (Width × List ℕ)
 width_at bytes = byte_at bytes >>= λ b. (if b.0 == BITS_16 then Some (L16, b.1) else (if b.0 == BITS_24 then Some (L24, b.1) else None))
 
+-- a flag: the byte 0 or 1, and no other
 abbrev pub flag_at : List ℕ → Option (Bool × List ℕ)
 flag_at bytes = byte_at bytes >>= λ b. (if b.0 == 0 then Some (false, b.1) else (if b.0 == 1 then Some (true, b.1) else None))
 
@@ -35,6 +37,7 @@ plain_input id channels width payload_type block_size reordering = record {
   parent = Nobody;
 }
 
+-- an input: id with its length, channels, width, payload type, block size, reordering
 unfoldable pub input_at : List ℕ → Option (Input × List ℕ)
 input_at bytes = do
   len ← byte_at bytes
@@ -46,15 +49,18 @@ input_at bytes = do
   reordering ← flag_at block_size.1
   Some (plain_input id.0 channels.0 width.0 payload_type.0 block_size.0 reordering.0, reordering.1)
 
+-- a cell in two bytes; with the input 255 the channel is 0, and it is unrouted
 unfoldable pub cell_at : List ℕ → Option (Cell × List ℕ)
 cell_at bytes = do
   input ← byte_at bytes
   channel ← byte_at input.1
   if input.0 == UNROUTED_INPUT then (if channel.0 == 0 then Some (Unrouted, channel.1) else None) else Some (From input.0 channel.0, channel.1)
 
+-- a member of a routable list: 254 for unrouted, otherwise an input
 unfoldable pub member_at : List ℕ → Option (Option ℕ × List ℕ)
 member_at bytes = byte_at bytes >>= λ b. (if b.0 == UNROUTED_MEMBER then Some (None, b.1) else Some (Some b.0, b.1))
 
+-- a routable list: 255 for everything, otherwise the number of members and then the members
 unfoldable pub routable_at : List ℕ → Option (Routable × List ℕ)
 routable_at bytes = do
   count ← byte_at bytes
@@ -74,6 +80,8 @@ plain_output id channels width payload_type ssrc routable = record {
   routable = routable;
 }
 
+-- an output with its base row: id with its length, channels, width, payload type, SSRC, routable
+-- list, a cell for each channel
 unfoldable pub target_at : List ℕ → Option (Target × List ℕ)
 target_at bytes = do
   len ← byte_at bytes
@@ -90,9 +98,12 @@ target_at bytes = do
 abbrev pub outputs_of : List Target → List Output
 outputs_of targets = map (λ t. t.output) targets
 
+-- the base rows of outputs that were read with them
 abbrev pub rows_of : List Target → List (List Cell)
 rows_of targets = map (λ t. t.row) targets
 
+-- the body of a plain device record: rate, base, hold, the numbers of inputs and outputs, the
+-- inputs, the outputs with their base rows
 unfoldable pub setup_at : List ℕ → Option ((DeviceParts × List (List Cell)) × List ℕ)
 setup_at bytes = do
   hz ← number_at 4 bytes

@@ -19,6 +19,7 @@ abbrev pub rises_from : ℕ → List ℕ → Bool
 rises_from least [] = true
 rises_from least (number ∷ others) = not (nat_lt number least) && rises_from (number + 1) others
 
+-- the test that numbers ascend
 abbrev pub rises : List ℕ → Bool
 rises numbers = rises_from 0 numbers
 
@@ -32,6 +33,7 @@ is_ordered action = rises (map (λ c. c.output) action) && list_all channels_ris
 
 -- ---- plain requests
 
+-- a channel and its cell
 unfoldable pub change_at : List ℕ → Option (Change × List ℕ)
 change_at bytes = do
   channel ← byte_at bytes
@@ -42,6 +44,7 @@ change_at bytes = do
 abbrev pub tested : {A : Type 0} → Bool → A → Option A
 tested test x = if test then Some x else None
 
+-- an output, the number of channels, and the channels with their cells, which ascend
 unfoldable pub output_change_at : List ℕ → Option (OutputChangeParts × List ℕ)
 output_change_at bytes = do
   output ← byte_at bytes
@@ -49,12 +52,14 @@ output_change_at bytes = do
   changes ← many_at change_at count.0 count.1
   tested (channels_rise (output_change output.0 changes.0)) (output_change output.0 changes.0, changes.1)
 
+-- the number of outputs, and the outputs with their channels, all of which ascend
 unfoldable pub action_at : List ℕ → Option (List OutputChangeParts × List ℕ)
 action_at bytes = do
   count ← byte_at bytes
   changes ← many_at output_change_at count.0 count.1
   tested (is_ordered changes.0) changes
 
+-- an activation at once
 unfoldable pub request_at : List ℕ → Option (Request × List ℕ)
 request_at bytes = do
   start ← expected_at ACTIVATE_NOW bytes
@@ -63,15 +68,18 @@ request_at bytes = do
 
 -- ---- bodies
 
+-- the body of a packet record: the input, and the packet's bytes
 unfoldable pub packet_item : List ℕ → Option Item
 packet_item body = byte_at body >>= λ input. Some (Packet input.0 input.1)
 
+-- the body of a request record: the client, and the request
 unfoldable pub ask_at : List ℕ → Option (Item × List ℕ)
 ask_at bytes = do
   client ← byte_at bytes
   request ← request_at client.1
   Some (Ask client.0 request.0, request.1)
 
+-- the body of a work record: the number of claims
 unfoldable pub work_at : List ℕ → Option (Item × List ℕ)
 work_at bytes = number_at 4 bytes >>= λ claims. Some (Work claims.0, claims.1)
 
@@ -86,6 +94,7 @@ step_of tag body =
 
 -- ---- records
 
+-- the next record: one that goes on, or the last one
 unfoldable pub step_at : List ℕ → Option (Option Item × List ℕ)
 step_at bytes = do
   r ← record_at bytes

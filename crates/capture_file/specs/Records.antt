@@ -30,6 +30,7 @@ output_change_text o = o.output ∷ length o.changes ∷ flat_map change_text o.
 abbrev pub action_text : List OutputChangeParts → List ℕ
 action_text action = length action ∷ flat_map output_change_text action
 
+-- when an activation takes effect: at once
 abbrev pub when_text : When → List ℕ
 when_text Now = ACTIVATE_NOW ∷ []
 
@@ -39,6 +40,8 @@ request_text (Activate when action) = when_text when ++ action_text action
 
 -- ---- records
 
+-- a record behind the device: a packet with its input, a request with its client, or a number of
+-- claims
 abbrev pub item_text : Item → List ℕ
 item_text (Packet input bytes) = record_text PACKET (input ∷ bytes)
 item_text (Ask client request) = record_text ASK (client ∷ request_text request)
@@ -55,18 +58,23 @@ abbrev pub FitsCell : Cell → Type 0
 FitsCell Unrouted = Unit {0}
 FitsCell (From input channel) = (input < 255) × (channel < 256)
 
+-- a channel's number is that of one byte, and its cell fits two
 abbrev pub FitsChange : Change → Type 0
 FitsChange c = (c.channel < 256) × FitsCell c.cell
 
+-- the output's number and the number of channels are those of one byte, and each change fits
 abbrev pub FitsOutputChange : OutputChangeParts → Type 0
 FitsOutputChange o = (o.output < 256) × (length o.changes < 256) × AllByRecursion FitsChange o.changes
 
+-- the number of outputs is that of one byte, and what is changed of each fits
 abbrev pub FitsAction : List OutputChangeParts → Type 0
 FitsAction action = (length action < 256) × AllByRecursion FitsOutputChange action
 
+-- the action of an activation fits its fields
 abbrev pub FitsRequest : Request → Type 0
 FitsRequest (Activate when action) = FitsAction action
 
+-- a record's numbers are in the range of their fields, and its body in that of its length
 abbrev pub FitsItem : Item → Type 0
 FitsItem (Packet input bytes) = (input < 256) × (length bytes + 1 < 2 ^ 32)
 FitsItem (Ask client request) = (client < 256) × FitsRequest request

@@ -13,7 +13,7 @@ use Rattle.capture_file.specs.declared.history.Said.TheVariants.{Plain}
 use Rattle.capture_file.specs.declared.history.History.{History}
 use Rattle.capture_file.specs.declared.requests.Reply.{Reply}
 use Rattle.capture_file.specs.declared.requests.Reply.TheVariants.{Activated}
-use Rattle.capture_file.specs.declared.limits.TheConstants.{MOST_CLIENTS}
+use Rattle.io_caps.specs.declared.limits.TheConstants.{CLIENTS}
 use Rattle.capture_file.specs.declared.tags.TheConstants.{CLAIM, CALL, REPLY, PLAIN_FORM, ACTIVATED}
 use Rattle.capture_file.specs.Device.{flag_byte}
 use Rattle.capture_file.specs.Records.{request_text, end_text, FitsRequest}
@@ -24,6 +24,7 @@ use Rattle.capture_file.specs.Records.{request_text, end_text, FitsRequest}
 abbrev pub claim_body : ClaimItem → List ℕ
 claim_body c = big_bytes 8 c.k ++ (map flag_byte c.found ++ c.packet)
 
+-- the record of a claim
 unfoldable pub claim_text : ClaimItem → List ℕ
 claim_text c = record_text CLAIM (claim_body c)
 
@@ -31,9 +32,11 @@ claim_text c = record_text CLAIM (claim_body c)
 abbrev pub call_body : JournalCall → List ℕ
 call_body c = big_bytes 8 c.at ++ (c.client ∷ (big_bytes 8 c.id ++ (big_bytes 8 c.tick ++ request_text c.request)))
 
+-- the record of an accepted call
 unfoldable pub call_text : JournalCall → List ℕ
 call_text c = record_text CALL (call_body c)
 
+-- an accepted activation: its code, its id, its tick
 abbrev pub plain_reply_text : Reply → List ℕ
 plain_reply_text (Activated id tick) = ACTIVATED ∷ (big_bytes 8 id ++ big_bytes 8 tick)
 
@@ -45,6 +48,7 @@ said_text (Plain reply) = PLAIN_FORM ∷ plain_reply_text reply
 abbrev pub reply_body : ReplyItem → List ℕ
 reply_body r = r.client ∷ (big_bytes 8 r.stamp.calls ++ (big_bytes 8 r.stamp.claims ++ said_text r.said))
 
+-- the record of a reply
 unfoldable pub reply_text : ReplyItem → List ℕ
 reply_text r = record_text REPLY (reply_body r)
 
@@ -84,11 +88,13 @@ IsShortClaim c = length c.found + length c.packet + 8 < 2 ^ 32
 abbrev pub FitsClaim : DeviceParts → ClaimItem → Type 0
 FitsClaim d c = (length c.found ≡ length d.inputs) × IsShortClaim c
 
+-- the client's number is one, and the request fits its fields
 abbrev pub FitsCall : JournalCall → Type 0
-FitsCall c = (c.client < MOST_CLIENTS) × FitsRequest c.request
+FitsCall c = (c.client < CLIENTS) × FitsRequest c.request
 
+-- the client's number is one
 abbrev pub FitsReply : ReplyItem → Type 0
-FitsReply r = r.client < MOST_CLIENTS
+FitsReply r = r.client < CLIENTS
 
 -- the order of replies in a result: by claims, then by calls, then by client
 abbrev pub IsNoLater : ReplyItem → ReplyItem → Type 0

@@ -2,19 +2,16 @@
 
 ghost use Rattle.std.specs.Prelude.{◌≡◌, ℕ, ◌+◌, ◌*◌, ◌<◌, ◌≤◌, ◌^◌, ◌↔◌, IsTrue, All, IfSome, IfNone, OnSome, length};
 ghost use Rattle.std.specs.List.{sum_by};
-ghost use Rattle.std.specs.Option.{option_map};
 ghost use Rattle.io_caps.specs.Device.{IsDevice};
-ghost use Rattle.io_caps.specs.declared.limits.TheConstants.{MOST_OUTPUTS};
+ghost use Rattle.io_caps.specs.declared.limits.TheConstants.{MOST_OUTPUTS, PLACES};
 ghost use Rattle.map_entry.specs.Setup.{setup_of};
 ghost use Rattle.capture_file.specs.Capture.{claims_of, IsItemThere};
-ghost use Rattle.capture_file.specs.CaptureReading.{parts_of, IsPlainSetup, HasHead, timestamps_of, ArePlainItems, AreTicks, IsTested};
-ghost use Rattle.capture_file.specs.Packets.{timestamp_of, packet_at, AreRising};
+ghost use Rattle.capture_file.specs.CaptureReading.{parts_of, IsPlainSetup, ArePlainItems, AreTicks, IsTested};
 ghost use Rattle.capture_file.specs.Plain.{IsPlainItem, entries_of_item};
-ghost use Rattle.capture_file.specs.RecordReading.{rises};
 
 use crate::plain::{is_item_there, is_plain_device, is_plain_item};
-use crate::{Capture, Item, Items, MOST_ENTRIES, MOST_TICKS, Request};
-use byteorder::{BigEndian, ByteOrder};
+use crate::{Capture, Item, Items, Request};
+use io_caps::limits::{CAPTURE_TICKS, PLACES};
 use io_caps::{Device, DeviceParts};
 use map_entry::{Rows, Setup};
 use std::alloc::Global;
@@ -52,7 +49,7 @@ fn ticks_of(outputs: u8, items: &[Item]) -> Option<u64>
     ensures none { IfNone result ((ticks : ℕ) → AreTicks outputs items.now ticks → ⊥) }
 {
     let outputs = u64::from(outputs);
-    let claims = claims_together(items, MOST_TICKS * outputs)?;
+    let claims = claims_together(items, CAPTURE_TICKS * outputs)?;
     if claims % outputs == 0 {
         Some(claims / outputs)
     } else {
@@ -73,61 +70,15 @@ fn entries_of(item: &Item) -> usize
     }
 }
 
-/// Whether there are at most `MOST_ENTRIES` map entries: one for each output, and one for each output that an activation
-/// names.
+/// Whether there are at most `PLACES` map entries: one for each output, and one for each output that an activation names.
 fn are_few_entries(outputs: u8, items: &[Item]) -> bool
     requires { outputs ≤ MOST_OUTPUTS }
-    ensures { IsTrue result ↔ (outputs + sum_by entries_of_item items.now ≤ MOST_ENTRIES) }
+    ensures { IsTrue result ↔ (outputs + sum_by entries_of_item items.now ≤ PLACES) }
 {
     let mut entries = usize::from(outputs);
     for item in items {
         entries = entries.saturating_add(entries_of(item));
-        if entries > MOST_ENTRIES {
-            return false;
-        }
-    }
-    true
-}
-
-/// The timestamp of a packet of this input, where the record is one.
-fn timestamp_at(input: u8, item: &Item) -> Option<u32>
-    requires { HasHead item.now }
-    ensures { result ≡ option_map timestamp_of (packet_at input item.now) }
-{
-    match item {
-        Item::Packet { input: of, bytes } if *of == input => {
-            Some(BigEndian::read_u32(&bytes.as_slice()[4..]))
-        }
-        _ => None,
-    }
-}
-
-/// Whether the timestamps of an input's packets rise.
-fn stamps_rise(input: u8, items: &[Item]) -> bool
-    requires { All HasHead items.now }
-    ensures { result ≡ rises (timestamps_of input items.now) }
-{
-    let mut next: u64 = 0;
-    for item in items {
-        if let Some(stamp) = timestamp_at(input, item) {
-            let stamp = u64::from(stamp);
-            if stamp < next {
-                return false;
-            }
-            next = stamp + 1;
-        }
-    }
-    true
-}
-
-/// Whether the timestamps of each input's packets rise.
-fn are_rising(inputs: u8, items: &[Item]) -> bool
-    requires heads { All HasHead items.now }
-    requires there { All (IsItemThere inputs) items.now }
-    ensures { IsTrue result ↔ AreRising items.now }
-{
-    for input in 0..inputs {
-        if !stamps_rise(input, items) {
+        if entries > PLACES as usize {
             return false;
         }
     }
@@ -149,11 +100,9 @@ fn are_each_plain(device: &Device, items: &[Item]) -> bool
 fn are_plain_items(device: &Device, items: &[Item]) -> bool
     ensures { IsTrue result ↔ ArePlainItems device.now items.now }
 {
-    let inputs = device.inputs();
-    if !are_there(inputs, items) || !are_each_plain(device, items) {
-        return false;
-    }
-    are_rising(inputs, items) && are_few_entries(device.outputs(), items)
+    are_there(device.inputs(), items)
+        && are_each_plain(device, items)
+        && are_few_entries(device.outputs(), items)
 }
 
 /// The device with its base rows, where they are in order and have the plain form.

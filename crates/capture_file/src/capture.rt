@@ -76,11 +76,11 @@ fn raw(alloc: Global, bytes: &[u8]) -> Result<(((DeviceParts, Rows), Items), &[u
 }
 
 /// The capture of the plain form at the front of bytes, and the place behind its last record. Its device record is a
-/// plain one of base 0, with inputs of 16 bits, block size 1 and reordering, and outputs to which anything may be
-/// routed; packets have a plain head of 12 bytes and fill one tick each, at rising timestamps that begin a tick and are
-/// below 2^31; requests are activations at once, of clients below 16, that name an output and only what is there; the claims are those of
-/// whole ticks, 256 at most; there are at most 512 map entries, one for each output and one for each output that an
-/// activation names. Other bytes are refused by the fault `NotYet`; want of memory comes for itself alone. (This project's own.)
+/// plain one, with inputs of block size 1 and reordering, and outputs to which anything may be routed; packets come to
+/// inputs that are there and hold any bytes; requests are activations at once, of clients below 16, that name an output
+/// and only what is there; the claims are those of whole ticks, 256 at most; there are at most 512 map entries, one for
+/// each output and one for each output that an activation names. Other bytes are refused by the fault `NotYet`; want of
+/// memory comes for itself alone. (This project's own.)
 pub fn read_capture(alloc: Global, bytes: &[u8]) -> Result<(Capture, usize), Or<CaptureFault>>
     // What is read is spelled so.
     ensures found { IfOk result (λ x. IsPlain x.0 × (x.1 ≤ length bytes.now) × (bytes.now ≡ capture_text x.0 ++ drop x.1 bytes.now)) }

@@ -7,7 +7,6 @@ mod device;
 mod fault;
 mod form;
 mod history;
-mod limits;
 mod plain;
 mod reading;
 mod records;
@@ -22,7 +21,6 @@ pub use fault::{CaptureFault, CaptureKind};
 pub use history::{
     ClaimItem, ClaimItems, History, Journal, JournalCall, ReplyItem, ReplyItems, Said,
 };
-pub use limits::{MOST_CLIENTS, MOST_ENTRIES, MOST_TICKS};
 pub use records::{Item, Items};
 pub use requests::{Reply, Request, Stamp, When};
 pub use result::write_result;

@@ -74,6 +74,7 @@ line_of status =
     if status == 2 then codes "usage: chanmap serial\n" else (if status == 3 then codes "read fault\n" else (if status == 4 then codes "write fault\n" else (if status == 5 then codes "refused: not-yet\n"
     else (if status == 7 then codes "too long\n" else (if status == 12 then codes "no memory\n" else [])))))
 
+-- the exit status of an end
 abbrev pub status_of : End → ℕ
 status_of Usage = 2
 status_of ReadFault = 3

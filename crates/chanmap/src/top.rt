@@ -17,6 +17,8 @@ use std::alloc::Global;
 /// The most bytes of an input that is read: 64 MiB.
 pub const MOST_BYTES: usize = 67_108_864;
 
+const _: () = prove!(MOST_BYTES == 67_108_864);
+
 /// Why a run ends otherwise than well.
 #[derive(Clone, Copy, Debug, PartialEq, Eq)]
 enum End {

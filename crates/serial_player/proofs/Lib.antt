@@ -1,12 +1,10 @@
 pub mod Ranges
-pub mod Filing
 pub mod Places
-pub mod Payloads
+pub mod Free
 pub mod Fits
 pub mod Runs
-pub mod Found
-pub mod PlainPackets
-pub mod Claims
+pub mod Tables
+pub mod TableClaims
 pub mod Captures
 pub mod Wholes
 pub mod Begun
