@@ -1,0 +1,383 @@
+//! What a book decides, over its table's entries and what it keeps. Nothing is changed.
+
+ghost use Rattle.std.specs.Prelude.{◌≡◌, ◌<◌, ◌≤◌, ◌+◌, ◌*◌, false, IfOk, IfNone, None, length, option_map};
+ghost use Rattle.std.specs.Option.{option_copied};
+ghost use Rattle.io_caps.specs.declared.limits.TheConstants.{PLACES};
+ghost use Rattle.map_entry.specs.declared.claims.TheConstants.{CLAIMS_LIMIT};
+ghost use Rattle.plain_book.specs.Book.{refusal_of};
+ghost use Rattle.plain_book.specs.Desk.{IsDecided, IsDesk, IsOpen, item_above, item_at, last_behind, parts, refusal_from, taken_by};
+ghost use Rattle.plain_book.specs.Full.{full_from, places_each};
+ghost use Rattle.plain_book.specs.Pending.{pending_call};
+ghost use Rattle.plain_book.specs.Replies.{accepted};
+ghost use Rattle.plain_book.specs.Rows.{AreEntries};
+ghost use Rattle.plain_book.specs.Time.{begin, is_over_from, land, land_from};
+ghost use Rattle.plain_book.specs.declared.requests.Request.TheVariants.{Activate, Delete};
+
+use crate::moments::{first_after, land};
+use crate::refusals::{bad_channel, empty, locked, unknown};
+use crate::rows::{Moments, bad_row, push_changes, push_kept};
+use crate::shows::{show_active, show_pending};
+use crate::{
+    Activation, Decided, JournalCall, Kept, Made, PendingItem, Refusal, Reply, Request, Settling,
+    When,
+};
+use io_caps::limits::PLACES;
+use io_caps::{NoMemory, TryCopy};
+use map_entry::{Action, Entries, Entry, Setup};
+use std::alloc::Global;
+
+/// The places of each output that an activation names.
+fn places_each(when: &When) -> u64
+    ensures value { result ≡ places_each when.now }
+    ensures few { result ≤ 2 }
+{
+    match when {
+        When::Now => 1,
+        When::At(_) => 2,
+        When::After(_) => 2,
+    }
+}
+
+/// Whether there are no places left for an action.
+fn full(used: u64, each: u64, action: &Action) -> Option<Refusal>
+    requires few { used ≤ PLACES }
+    ensures { result ≡ full_from used each action.now }
+{
+    let needed = u128::from(each) * (action.len() as u128);
+    if u128::from(PLACES) < u128::from(used) + needed {
+        Some(Refusal::Full)
+    } else {
+        None
+    }
+}
+
+/// The first refusal of an activation that applies.
+#[tactic(auto, unfolding(crate::specs::Desk::refusal_from))]
+fn refusal(
+    alloc: Global,
+    setup: &Setup,
+    entries: &[Entry],
+    kept: &Kept,
+    moments: Moments,
+    when: &When,
+    action: &Action,
+) -> Result<Option<Refusal>, NoMemory>
+    requires entries { AreEntries setup.now moments.first entries.now }
+    requires first { moments.first ≡ begin setup.now moments.claims }
+    requires room { kept.now.used ≤ PLACES }
+    ensures value { IfOk result (λ r. r ≡ refusal_from setup.now entries.now kept.now.pending.items
+        kept.now.used moments.claims when.now action.now) }
+    ensures open { IfOk result (λ r. IfNone r (IsOpen setup.now action.now)) }
+{
+    let changes = action.as_slice();
+    let device = &setup.device;
+    if let Some(refusal) = empty(changes) {
+        return Ok(Some(refusal));
+    }
+    if let Some(refusal) = unknown(device, changes) {
+        return Ok(Some(refusal));
+    }
+    if let Some(refusal) = bad_channel(device, changes) {
+        return Ok(Some(refusal));
+    }
+    if let Some(refusal) = locked(kept.pending.as_slice(), changes) {
+        return Ok(Some(refusal));
+    }
+    let failed = bad_row(alloc, setup, entries, moments, action, changes)?;
+    if let Some(refusal) = failed {
+        return Ok(Some(refusal));
+    }
+    match land(setup, moments.first, when) {
+        None => Ok(Some(Refusal::Time)),
+        Some(_) => Ok(full(kept.used, places_each(when), action)),
+    }
+}
+
+/// The pending activation of an id.
+fn find_item(pending: &[PendingItem], id: u64) -> Option<&PendingItem>
+    ensures { option_copied result ≡ item_at id pending.now }
+{
+    pending.iter().find(|item| item.id == id)
+}
+
+/// The pending activation that an accepted one is, where it counts from behind the first tick that
+/// has not begun.
+fn item(
+    moments: Moments,
+    id: u64,
+    when: &When,
+    action: &Action,
+) -> Result<Option<PendingItem>, NoMemory>
+    ensures { IfOk result (λ made. made ≡ item_above moments.first id when.now moments.tick
+        action.now) }
+{
+    if moments.first < moments.tick {
+        let action = action.copy()?;
+        Ok(Some(PendingItem::new(id, *when, moments.tick, action)))
+    } else {
+        Ok(None)
+    }
+}
+
+/// The activation that the active map shows behind an accepted one.
+fn last_behind(
+    moments: Moments,
+    id: u64,
+    when: &When,
+    last: Option<Activation>,
+) -> Option<Activation>
+    ensures { result ≡ last_behind moments.first id when.now moments.tick last }
+{
+    if moments.first < moments.tick {
+        last
+    } else {
+        Some(Activation::new(id, *when, moments.tick))
+    }
+}
+
+fn accepted(when: &When, id: u64, tick: u64) -> Reply
+    ensures { result ≡ accepted when.now id tick }
+{
+    match when {
+        When::Now => Reply::Activated { id, tick },
+        When::At(_) => Reply::Scheduled { id, tick },
+        When::After(_) => Reply::Scheduled { id, tick },
+    }
+}
+
+/// Decides on an activation that is refused for nothing.
+fn accept(
+    alloc: Global,
+    setup: &Setup,
+    entries: &[Entry],
+    kept: &Kept,
+    moments: Moments,
+    client: u8,
+    request: &Request,
+    when: &When,
+    action: &Action,
+) -> Result<Decided, NoMemory>
+    requires asks { request.now ≡ Activate when.now action.now }
+    requires desk { IsDesk setup.now moments.claims entries.now (parts kept.now) }
+    requires looked { kept.now.seen ≡ moments.claims }
+    requires free { refusal_of setup.now kept.now.journal moments.claims when.now action.now ≡ None }
+    requires open { IsOpen setup.now action.now }
+    requires first { moments.first ≡ begin setup.now moments.claims }
+    requires lands { moments.tick ≡ land setup.now moments.claims when.now }
+    requires places { kept.now.used + places_each when.now * length action.now ≤ PLACES }
+    ensures { IfOk result (IsDecided setup.now moments.claims entries.now (parts kept.now) client
+        request.now) }
+{
+    let id = kept.next;
+    let next = match id.checked_add(1) {
+        Some(next) => next,
+        None => return Err(NoMemory),
+    };
+    let used = kept.used + places_each(when) * action.len() as u64;
+    let mut new = Entries::new(alloc);
+    push_changes(
+        alloc,
+        setup,
+        entries,
+        moments,
+        action,
+        action.as_slice(),
+        &mut new,
+    )?;
+    let item = item(moments, id, when, action)?;
+    let call = JournalCall::new(moments.claims, client, id, moments.tick, request.copy()?);
+    let reply = accepted(when, id, moments.tick);
+    let settling = Settling {
+        takes: None,
+        last: last_behind(moments, id, when, kept.last),
+        next,
+        used,
+    };
+    let made = Made {
+        call,
+        entries: new,
+        item,
+        settling,
+    };
+    Ok(Decided {
+        reply,
+        made: Some(made),
+    })
+}
+
+/// The tick of the pending activation of an id, with the entries that keep its outputs' rows.
+fn taken(
+    alloc: Global,
+    setup: &Setup,
+    entries: &[Entry],
+    kept: &Kept,
+    claims: u64,
+    first: u64,
+    id: u64,
+) -> Result<Option<(u64, Entries)>, NoMemory>
+    requires desk { IsDesk setup.now claims entries.now (parts kept.now) }
+    requires looked { kept.now.seen ≡ claims }
+    requires first { first ≡ begin setup.now claims }
+    ensures { IfOk result (λ made. made ≡ option_map (taken_by setup.now entries.now claims)
+        (pending_call setup.now kept.now.journal claims id)) }
+{
+    match find_item(kept.pending.as_slice(), id) {
+        None => Ok(None),
+        Some(item) => {
+            let tick = item.tick;
+            let moments = Moments {
+                claims,
+                first,
+                tick,
+            };
+            let mut made = Entries::new(alloc);
+            push_kept(setup, entries, moments, item.action.as_slice(), &mut made)?;
+            Ok(Some((tick, made)))
+        }
+    }
+}
+
+/// Decides on a deletion.
+fn delete(
+    alloc: Global,
+    setup: &Setup,
+    entries: &[Entry],
+    kept: &Kept,
+    claims: u64,
+    first: u64,
+    client: u8,
+    request: &Request,
+    id: u64,
+) -> Result<Decided, NoMemory>
+    requires asks { request.now ≡ Delete id }
+    requires desk { IsDesk setup.now claims entries.now (parts kept.now) }
+    requires looked { kept.now.seen ≡ claims }
+    requires first { first ≡ begin setup.now claims }
+    ensures { IfOk result (IsDecided setup.now claims entries.now (parts kept.now) client
+        request.now) }
+{
+    match taken(alloc, setup, entries, kept, claims, first, id)? {
+        None => {
+            let reply = Reply::Refused(Refusal::NotPending { id });
+            let made = None;
+            Ok(Decided { reply, made })
+        }
+        Some((tick, new)) => {
+            let call = JournalCall::new(claims, client, 0, tick, request.copy()?);
+            let settling = Settling {
+                takes: Some(id),
+                last: kept.last,
+                next: kept.next,
+                used: kept.used,
+            };
+            let item = None;
+            let made = Made {
+                call,
+                entries: new,
+                item,
+                settling,
+            };
+            Ok(Decided {
+                reply: Reply::Deleted { id },
+                made: Some(made),
+            })
+        }
+    }
+}
+
+/// The tick from which an activation counts that isn't past the end of time.
+fn landed(setup: &Setup, first: u64, when: &When) -> u64
+    requires { is_over_from setup.now first when.now ≡ false }
+    ensures { result ≡ land_from setup.now first when.now }
+{
+    match land(setup, first, when) {
+        Some(tick) => tick,
+        // It was seen to have a start.
+        None => first,
+    }
+}
+
+/// Decides on an activation.
+fn activate(
+    alloc: Global,
+    setup: &Setup,
+    entries: &[Entry],
+    kept: &Kept,
+    claims: u64,
+    first: u64,
+    client: u8,
+    request: &Request,
+    when: &When,
+    action: &Action,
+) -> Result<Decided, NoMemory>
+    requires asks { request.now ≡ Activate when.now action.now }
+    requires desk { IsDesk setup.now claims entries.now (parts kept.now) }
+    requires looked { kept.now.seen ≡ claims }
+    requires first { first ≡ begin setup.now claims }
+    ensures { IfOk result (IsDecided setup.now claims entries.now (parts kept.now) client
+        request.now) }
+{
+    let moments = Moments {
+        claims,
+        first,
+        tick: first,
+    };
+    match refusal(alloc, setup, entries, kept, moments, when, action)? {
+        Some(refusal) => {
+            let reply = Reply::Refused(refusal);
+            let made = None;
+            Ok(Decided { reply, made })
+        }
+        None => {
+            let tick = landed(setup, first, when);
+            let moments = Moments {
+                claims,
+                first,
+                tick,
+            };
+            accept(
+                alloc, setup, entries, kept, moments, client, request, when, action,
+            )
+        }
+    }
+}
+
+/// Decides on a request after so many claims, at which the book has looked at what is pending, over
+/// the entries of its table. Nothing is changed.
+pub fn decide(
+    alloc: Global,
+    setup: &Setup,
+    entries: &[Entry],
+    kept: &Kept,
+    claims: u64,
+    client: u8,
+    request: &Request,
+) -> Result<Decided, NoMemory>
+    requires desk { IsDesk setup.now claims entries.now (parts kept.now) }
+    requires looked { kept.now.seen ≡ claims }
+    requires claims { claims < CLAIMS_LIMIT }
+    ensures { IfOk result (IsDecided setup.now claims entries.now (parts kept.now) client
+        request.now) }
+{
+    let first = first_after(setup, claims);
+    match request {
+        Request::Activate { when, action } => {
+            activate(
+                alloc, setup, entries, kept, claims, first, client, request, when, action,
+            )
+        }
+        Request::Delete { id } => delete(
+            alloc, setup, entries, kept, claims, first, client, request, *id,
+        ),
+        Request::Active => {
+            let reply = show_active(alloc, setup, entries, kept, claims, first)?;
+            let made = None;
+            Ok(Decided { reply, made })
+        }
+        Request::Pending => {
+            let reply = show_pending(alloc, setup, entries, kept, claims)?;
+            let made = None;
+            Ok(Decided { reply, made })
+        }
+    }
+}
