@@ -1,0 +1,73 @@
+-- The values of a field so far, and those still to come.
+use Rattle.std.proofs.lemmas.Grind.{common_steps}
+use Rattle.std.proofs.Common.{Bool, ◌++◌, drop, take, slice_range, sym, ap, ◌∙◌, take-append-drop}
+use Rattle.std.proofs.Common.{length-take, length-drop, drop-drop, ◌≡◌, ℕ, List, [], ◌∷◌}
+use Rattle.std.proofs.Common.{length, ◌+◌, ◌*◌, ◌<◌, ◌≤◌, ◌⊎◌, inl, inr, min, arith, true, false, true≢false, get_or, ◌&&◌, ◌-◌, refl}
+use Rattle.std.proofs.lemmas.Bool.{cases_lt}
+use Rattle.std.proofs.lemmas.List.{drop_more}
+use Rattle.std.proofs.lemmas.Str.{digit_value_digit}
+use Rattle.std.specs.Int.{IsInRange}
+use Rattle.std.specs.List.{list_all}
+use Rattle.std.specs.Str.Parse.{digits_value, digits_value_after}
+use Rattle.std.specs.Char.{digit_value, is_ascii_digit}
+use Rattle.httparse.specs.Spans.{span_bytes, IsWithin}
+use Rattle.http_wire.specs.declared.request.HttpRequest.{HttpRequest}
+use Rattle.http_wire.specs.declared.request.Method.{Method}
+use Rattle.http_wire.specs.declared.fields.Values.{Values}
+use Rattle.http_wire.specs.declared.fields.Values.TheVariants.{Missing, One, Several}
+
+abbrev pub SoFar : List ℕ → List (List ℕ) → List (List ℕ) → Values → Type 0
+SoFar held whole rest Missing = whole ≡ rest
+SoFar held whole rest (One span) = (whole ≡ span_bytes held span ∷ rest) × IsWithin (length held) span
+SoFar held whole rest Several = ⊥
+
+-- more digits make no smaller number
+pub value_grows : (ds : List ℕ) (n : ℕ) → n ≤ digits_value_after 10 n ds
+value_grows [] n = omega arith
+value_grows (d ∷ ds) n = omega (arith, value_grows ds (n * 10 + digit_value d))
+
+cut_off_by : (most x : ℕ) (ds : List ℕ) → x < most ⊎ most ≤ x → min (digits_value_after 10 (min x most) ds) most ≡ min (digits_value_after 10 x ds) most
+cut_off_by most x ds (inl small) = ap (λ (n : ℕ). min (digits_value_after 10 n ds) most) (omega (arith, small))
+cut_off_by most x ds (inr large) =
+    let cut : min x most ≡ most = omega (arith, large) in
+    let low : most ≤ digits_value_after 10 (min x most) ds = rw cut (value_grows ds most) in
+    omega (arith, low, value_grows ds x, large)
+
+-- a number that is cut off on the way is cut off in the end
+pub cut_off : (most x : ℕ) (ds : List ℕ) → min (digits_value_after 10 (min x most) ds) most ≡ min (digits_value_after 10 x ds) most
+cut_off most x ds = cut_off_by most x ds (cases_lt x most)
+
+both : (a b : Bool) → (a && b) ≡ true → (a ≡ true) × (b ≡ true)
+both true b h = (refl, h)
+both false b h = absurd (true≢false (sym h))
+
+digit_range : (b : ℕ) → is_ascii_digit b ≡ true → IsInRange 48 57 b
+digit_range b h = (grind (arith, common_steps), grind (arith, common_steps))
+
+-- one digit more
+pub digit_more : (most number : ℕ) (digits : List ℕ) (at next : ℕ) → at < length digits → list_all is_ascii_digit (drop at digits) ≡ true
+    → next ≡ min (number * 10 + (get_or digits at 0 - 48)) most
+    → min (digits_value_after 10 number (drop at digits)) most ≡ min (digits_value 10 digits) most
+    → (min (digits_value_after 10 next (drop (at + 1) digits)) most ≡ min (digits_value 10 digits) most)
+    × (list_all is_ascii_digit (drop (at + 1) digits) ≡ true)
+digit_more most number digits at next within all next_is value =
+    let b : ℕ = get_or digits at 0 in
+    let rest = drop (at + 1) digits in
+    let more : drop at digits ≡ b ∷ rest = drop_more digits at 0 within in
+    let parts = both (is_ascii_digit b) (list_all is_ascii_digit rest) (rw more at all) in
+    let digit : digit_value b + 48 ≡ b = digit_value_digit b (digit_range b parts.0) in
+    let same : next ≡ min (number * 10 + digit_value b) most = next_is ∙ ap (λ (d : ℕ). min (number * 10 + d) most) (omega (arith, digit)) in
+    (ap (λ (n : ℕ). min (digits_value_after 10 n rest) most) same ∙ cut_off most (number * 10 + digit_value b) rest ∙ rw more at value, parts.1)
+
+-- the body, and what stands behind it
+pub cut_body : (held body : List ℕ) (at n : ℕ) → body ≡ slice_range held at (at + n) → at + n ≤ length held
+    → (body ++ drop (at + n) held ≡ drop at held) × (length body ≡ n)
+cut_body held body at n e h =
+    let piece : slice_range held at (at + n) ≡ take n (drop at held) = grind (arith, common_steps) in (
+      rw (e, piece) (ap (λ (s : List ℕ). take n (drop at held) ++ s) (sym (drop-drop n at held)) ∙ take-append-drop n (drop at held)),
+      rw (e, piece) (omega (arith, length-take n (drop at held), length-drop at held)),
+    )
+
+pub same_request : (m n : Method) (p q b : List ℕ) (x y : Bool) → m ≡ n → p ≡ q → x ≡ y
+    → ◌≡◌ {A = HttpRequest} (record { method = m; path = p; body = b; closes = x }) (record { method = n; path = q; body = b; closes = y })
+same_request m n p q b x y e f g = cc

@@ -1,0 +1,54 @@
+-- What the bytes that are held begin with, before the head of a request is taken from them. What a head is, and which bytes it
+-- has, is httparse's grammar of RFC 9112, sections 2 to 5, in which empty lines may come first and a line may end in LF alone.
+-- (The limits, and when a head is refused, are this project's own.)
+use Rattle.std.specs.Prelude.{◌≡◌, ℕ, ◌<◌, ◌≤◌, ◌⊎◌, Bool, List, [], ◌∷◌, ◌++◌, length, take, ◌==◌, IsTrue, if◌then◌else◌}
+use Rattle.std.specs.List.{list_any}
+use Rattle.httparse.specs.Grammar.{RequestHead, ReadsRequest, HasNoRequest, print_request}
+use Rattle.httparse.specs.Pieces.{is_newline}
+use Rattle.http_wire.specs.declared.limits.TheConstants.{MOST_HEAD, MOST_FIELDS}
+use Rattle.http_wire.specs.declared.status.TheConstants.{BAD_REQUEST, FIELDS_TOO_LARGE}
+
+-- the bytes are this head and then the rest, and it is within its limits
+pub record IsFit (bytes : List ℕ) (h : RequestHead) (rest : List ℕ) : Type 0 where
+  pub reads : ReadsRequest bytes h rest
+  pub fields : length h.fields ≤ MOST_FIELDS
+  pub size : length (print_request h) ≤ MOST_HEAD
+
+-- they begin with a head within its limits
+abbrev pub BeginsFit : List ℕ → Type 0
+BeginsFit bytes = (h : RequestHead) × (rest : List ℕ) × IsFit bytes h rest
+
+-- whatever bytes follow (or none), they don't begin with a head within its limits
+abbrev pub IsDoubtful : List ℕ → Type 0
+IsDoubtful bytes = (more : List ℕ) → ¬ (BeginsFit (bytes ++ more))
+
+-- some bytes can follow that make a head of any size
+abbrev pub CanBecomeHead : List ℕ → Type 0
+CanBecomeHead bytes = (more : List ℕ) × (h : RequestHead) × ReadsRequest (bytes ++ more) h []
+
+-- the bytes from the first that is neither CR nor LF
+abbrev pub skip_newlines : List ℕ → List ℕ
+skip_newlines [] = []
+skip_newlines (b ∷ bytes) = if is_newline b then skip_newlines bytes else b ∷ bytes
+
+-- a whole line has come: a line feed stands behind the first byte that is neither CR nor LF
+abbrev pub has_line : List ℕ → Bool
+has_line bytes = list_any (λ b. b == 10) (skip_newlines bytes)
+
+-- no head of any size has come, and once a line has, some bytes can follow that make one
+abbrev pub IsOpen : List ℕ → Type 0
+IsOpen bytes = HasNoRequest bytes × (IsTrue (has_line bytes) → CanBecomeHead bytes)
+
+-- the bytes in which a head must lie
+abbrev pub window : List ℕ → List ℕ
+window bytes = take MOST_HEAD bytes
+
+-- a head has not come, and the bytes are not too many for one
+abbrev pub IsAwaited : List ℕ → Type 0
+IsAwaited bytes = (length bytes < MOST_HEAD) × IsOpen bytes
+
+-- The statuses with which a head is refused. A doubtful head may be refused at any time, or be awaited while it is open.
+abbrev pub IsRefusedHead : List ℕ → ℕ → Type 0
+IsRefusedHead bytes status =
+    ((status ≡ BAD_REQUEST) × IsDoubtful bytes)
+    ⊎ ((status ≡ FIELDS_TOO_LARGE) × (MOST_HEAD ≤ length bytes) × IsOpen (window bytes))
