@@ -1,0 +1,7 @@
+pub mod Totals
+pub mod Lists
+pub mod Fitting
+pub mod Steps
+pub mod Publishing
+pub mod Seats
+pub mod Ends

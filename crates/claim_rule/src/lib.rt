@@ -1,0 +1,14 @@
+//! The rule of the claim table, on whose word 0 workers claim packets and a publisher publishes entries, and the views
+//! of those who step on it. All of it is for proofs: no code runs here.
+#![tactic(auto)]
+
+pub mod laws;
+mod plan;
+mod rule;
+mod view;
+mod words;
+
+pub use plan::{Plan, Start};
+pub use rule::{Draws, Hands, Notes, NotesIn, Publishes, Reads, Sees, TableLaw, TakesIn, Writes};
+pub use view::{Draw, Sight, View};
+pub use words::{HEAD_WORDS, STRIDE, TICKS_LIMIT, WORDS};

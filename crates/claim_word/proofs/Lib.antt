@@ -1,0 +1,10 @@
+pub mod Spelling
+pub mod Writing
+pub mod Reading
+pub mod Bounds
+pub mod Remembering
+pub mod Claiming
+pub mod Publishing
+pub mod Ending
+pub mod Starting
+pub mod BaseRows

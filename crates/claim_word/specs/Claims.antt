@@ -1,0 +1,123 @@
+-- What a claim says, and what a worker's pass keeps. (This project's own.)
+use Rattle.std.specs.Prelude.{◌≡◌, ℕ, ◌+◌, ◌-◌, ◌*◌, ◌<◌, ◌≤◌, ◌⊎◌, Bool, true, false, nat_lt, cond, not, ◌&&◌, eqb, List, [], ◌∷◌, ◌++◌, map, filter, length, Some, slice_get, slice_index_or, MatchBool, vec_capacity}
+use Rattle.std.specs.List.{All, AllZip, sum_by}
+use Rattle.map_entry.specs.declared.cell.Cell.{Cell}
+use Rattle.map_entry.specs.declared.entry.Entry.{Entry}
+use Rattle.map_entry.specs.Entry.{selected, HasRowsFrom}
+use Rattle.map_entry.specs.Row.{channels_of_output}
+use Rattle.map_entry.specs.Setup.{HasCells}
+use Rattle.claim_rule.specs.declared.plan.Plan.{Plan}
+use Rattle.claim_rule.specs.declared.view.View.{View}
+use Rattle.claim_rule.specs.declared.view.Draw.{Draw}
+use Rattle.claim_rule.specs.Claims.{tick_of, output_of, IsSound, IsFit}
+use Rattle.claim_rule.specs.Words.{places, head_words}
+use Rattle.claim_rule.specs.Views.{Begins, draw, overs, times, drew}
+use Rattle.claim_word.specs.declared.memory.Head.{Head}
+use Rattle.claim_word.specs.declared.memory.Memory.{Memory}
+use Rattle.claim_word.specs.declared.span.Span.{Span}
+use Rattle.claim_word.specs.declared.worker.Claim.{Claim}
+use Rattle.claim_word.specs.declared.worker.Claimed.{Claimed}
+use Rattle.claim_word.specs.declared.worker.Claimed.TheVariants.{Packet, Over}
+use Rattle.claim_word.specs.Faces.{PassFace, IsSpan}
+
+-- ---- claims
+
+-- the claim of a number drawn, over the entries that the draw found
+pub record IsClaim (plan : Plan) (number : ℕ) (found : List Entry) (c : Claim) : Type 0 where
+  pub early : number < plan.packets
+  pub k : c.k ≡ plan.from + number
+  pub tick : c.tick ≡ tick_of plan number
+  pub output : c.output ≡ output_of plan number
+  pub entries : c.entries ≡ length found
+
+-- the pass drew a number, while these entries were published, which begin with those that it had found before
+pub record IsDrawn (p q : PassFace) (number : ℕ) (found : List Entry) : Type 0 where
+  pub was : p.ended ≡ false
+  pub id : q.id ≡ p.id
+  pub view : q.view ≡ drew p.view number found
+  pub more : Begins p.view.entries found
+
+-- A claim is that of the number drawn. It is over where the number drawn is past the packets, and from then on.
+abbrev pub IsClaimed : PassFace → PassFace → Claimed → Type 0
+IsClaimed p q (Packet c) = (number : ℕ) × (found : List Entry) × IsDrawn p q number found × (q.ended ≡ false) × IsClaim p.view.plan number found c
+IsClaimed p q Over =
+    (q.ended ≡ true)
+    × (((p.ended ≡ true) × (q ≡ p)) ⊎ ((number : ℕ) × (found : List Entry) × IsDrawn p q number found × (p.view.plan.packets ≤ number)))
+
+-- the last draw of a view
+abbrev pub IsLastDraw : View → ℕ → Type 0
+IsLastDraw v number = slice_get v.draws (length v.draws - 1) ≡ Some (draw number v.entries)
+
+-- the claim is that of the pass's last draw
+abbrev pub IsLast : PassFace → Claim → Type 0
+IsLast p c = (number : ℕ) × IsLastDraw p.view number × IsClaim p.view.plan number p.view.entries c
+
+-- a pass that is over drew a number past the packets
+pub record HasOver (packets : ℕ) (draws : List Draw) : Type 0 where
+  pub number : ℕ
+  pub late : packets ≤ number
+  pub there : 0 < times number draws
+
+-- the claims that draws make, by their numbers in the whole session
+abbrev pub is_packet : Plan → Draw → Bool
+is_packet plan d = nat_lt d.number plan.packets
+
+-- the claims of draws, by their numbers in the whole session: draws past the packets are none
+abbrev pub claims_of : Plan → List Draw → List ℕ
+claims_of plan draws = map (λ d. plan.from + d.number) (filter (is_packet plan) draws)
+
+-- ---- loads
+
+-- how many words the row of a draw has: one for each channel of its output, where it is a packet's
+abbrev pub row_words : Plan → Draw → ℕ
+row_words plan d = cond (is_packet plan d) (channels_of_output plan.setup.device (output_of plan d.number)) 0
+
+-- over its life a pass loads at most the head words of each entry that its last draw found, and one word for each channel of each claim
+abbrev pub IsFrugal : View → Type 0
+IsFrugal v = v.loads ≤ head_words * length v.entries + sum_by (row_words v.plan) v.draws
+
+-- the view so many loads later
+abbrev pub read_on : View → ℕ → View
+read_on v n = record v { loads = v.loads + n }
+
+-- ---- what a pass remembers
+
+-- what is remembered of an entry: its output and its tick
+abbrev pub head_of : Entry → Head
+head_of e = record { output = e.output; tick = e.tick }
+
+-- whether an entry with this head rules an output at a tick
+abbrev pub head_rules : ℕ → ℕ → Head → Bool
+head_rules output tick head = eqb head.output output && not (nat_lt tick head.tick)
+
+-- the row that rules the tick of a draw, over the entries of the view
+abbrev pub HasRow : View → List (List Cell) → ℕ → Type 0
+HasRow v rows number =
+    selected v.entries (output_of v.plan number) (tick_of v.plan number) ≡ Some (slice_index_or rows (output_of v.plan number) [])
+
+-- The heads of entries in front; a row for each output; and the row that rules the last claim, or as many loads are left as it has
+-- channels.
+pub record IsMemory (v : View) (m : Memory) : Type 0 where
+  pub room : places ≤ vec_capacity m.heads
+  pub heads : Begins m.heads.items (map head_of v.entries)
+  pub rows : AllZip HasCells v.plan.setup.device.outputs m.rows.items
+  pub loads : v.loads ≤ length m.heads.items + sum_by (row_words v.plan) v.draws
+  pub last : (number : ℕ) → IsLastDraw v number → number < v.plan.packets
+      → MatchBool m.ready (HasRow v m.rows.items number)
+      (v.loads + channels_of_output v.plan.setup.device (output_of v.plan number) ≤ length m.heads.items + sum_by (row_words v.plan) v.draws)
+
+-- What a worker's pass keeps: it may draw past the packets once; its claims are those of its draws; and the entries that its last draw
+-- found have room, fit the plan and leave no output without a row.
+pub record IsWorker (v : View) (span : Span) (claims : List ℕ) (room : ℕ) (ended : Bool) : Type 0 where
+  pub sound : IsSound v.plan
+  pub span_is : IsSpan v.plan span
+  pub live : v.live ≡ true
+  pub quiet : v.publishes ≡ false
+  pub part : v.parts ≡ 1
+  pub early : ended ≡ false → overs v.plan v ≡ 0
+  pub over : ended ≡ true → HasOver v.plan.packets v.draws
+  pub claims_are : claims ≡ claims_of v.plan v.draws
+  pub room_is : v.plan.packets ≤ room
+  pub few : length v.entries ≤ places
+  pub fits : All (IsFit v.plan) v.entries
+  pub covers : 0 < length v.draws → HasRowsFrom v.plan.setup.device v.entries (tick_of v.plan 0)

@@ -1,0 +1,10 @@
+pub mod Words
+pub mod Shelf
+pub mod Faces
+pub mod Claims
+pub mod Lending
+pub mod States
+pub mod Passes
+pub mod Writings
+pub mod Starts
+pub mod Endings
