@@ -1,0 +1,11 @@
+pub mod Bits
+pub mod Seats
+pub mod Passes
+pub mod Feeding
+pub mod Ending
+pub mod Laying
+pub mod Giving
+pub mod Agreeing
+pub mod Starting
+pub mod Growing
+pub mod Copying

@@ -1,0 +1,50 @@
+-- The passes of a table that was just started.
+use Rattle.std.proofs.Common.{◌≡◌, ℕ, zero, suc, ◌+◌, ◌-◌, ◌<◌, ◌≤◌, List, [], ◌∷◌, length, map, get_or, replicate, refl, sym, ap, ◌∙◌, subst, arith, false}
+use Rattle.std.proofs.lemmas.List.{length-map}
+use Rattle.std.specs.Prelude.{Bool, Option, Some, is_none}
+use Rattle.std.specs.List.{All, AllZip}
+use Rattle.io_caps.specs.declared.device.DeviceParts.{DeviceParts}
+use Rattle.input_rule.specs.declared.view.Shape.{Shape}
+use Rattle.input_cells.specs.Faces.{AreFeeds, AreNumbered, FeedsFace, InputFace, IsKept, SeatFace, face_of, unfed, unread}
+use Rattle.input_cells.specs.Shapes.{IsTableOf, shape_of}
+use Rattle.input_cells.proofs.Agreeing.{range_at, range_long, shape_in}
+
+pub as_inputs : (d : DeviceParts) (from ticks : ℕ) (table : List InputFace) → IsTableOf d from ticks table → length table ≡ length d.inputs + 1
+as_inputs d from ticks table of_it = sym (length-map table (λ (t : InputFace). t.shape)) ∙ (ap (λ (l : List Shape). length l) of_it ∙ range_long (shape_of d from ticks) 0 (length d.inputs + 1))
+
+pub numbered_table : (d : DeviceParts) (from ticks : ℕ) (table : List InputFace) → IsTableOf d from ticks table → AreNumbered table
+numbered_table d from ticks table of_it k e lt =
+    let n = as_inputs d from ticks table of_it in
+    ap (λ (z : Shape). z.input) (shape_in table k e ∙ (ap (λ (l : List Shape). get_or l k e.shape) of_it ∙ range_at (shape_of d from ticks) 0 (length d.inputs + 1) k e.shape (omega arith))) ∙ omega arith
+
+faces_unread : (table : List InputFace) → map face_of (map unread table) ≡ table
+faces_unread [] = refl
+faces_unread (t ∷ ts) = λ k. t ∷ faces_unread ts k
+
+all_kept : (table : List InputFace) → AllZip IsKept table (map (λ (t : InputFace). Some (unfed t)) table)
+all_kept [] = tt
+all_kept (t ∷ ts) = (refl, all_kept ts)
+
+none_given : (table : List InputFace) → map is_none (map (λ (t : InputFace). Some (unfed t)) table) ≡ replicate (length table) false
+none_given [] = refl
+none_given (t ∷ ts) = λ k. false ∷ none_given ts k
+
+module _ (table : List InputFace) (feeders : List (Option SeatFace)) (readers : List (List SeatFace)) (spare : List SeatFace) (most : ℕ) (f : feeders ≡ map (λ (t : InputFace). Some (unfed t)) table) (s : spare ≡ map unread table) where
+  pub table_is : map face_of spare ≡ table
+  table_is = ap (λ (l : List SeatFace). map face_of l) s ∙ faces_unread table
+
+  pub are_feeds : AreNumbered table → length readers ≡ most → All (λ r. r ≡ map unread table) readers → AreFeeds (map face_of spare) feeders readers spare most
+  are_feeds numbered many r = subst (λ (t : List InputFace). AreFeeds t feeders readers spare most) (sym table_is) (record {
+    spare_is = s;
+    feeders_are = subst (AllZip IsKept table) (sym f) (all_kept table);
+    readers_are = r;
+    few = omega arith;
+    numbered = numbered;
+  })
+
+  pub feeds_are : (n : ℕ) → length table ≡ n → length readers ≡ most
+      → ◌≡◌ {A = FeedsFace} (record { table = map face_of spare; given = map is_none feeders; most = most; made = most - length readers }) (record { table = table; given = replicate n false; most = most; made = 0 })
+  feeds_are n long many =
+      let given : map is_none feeders ≡ replicate n false = ap (λ (l : List (Option SeatFace)). map is_none l) f ∙ (none_given table ∙ ap (λ (m : ℕ). replicate {A = Bool} m false) long) in
+      let made : most - length readers ≡ 0 = omega arith in
+      λ k. record { table = table_is k; given = given k; most = most; made = made k }

@@ -1,0 +1,17 @@
+use Rattle.input_cells.proofs.Growing.{agrees_before, grows_on, keeps_missed, keeps_seen, stays_of_table}
+use Rattle.input_cells.proofs.laws.passes_grow.Goals as goal
+
+pub returns-clause-on : goal.returns-clause-on
+returns-clause-on c = grows_on
+
+pub returns-clause-table : goal.returns-clause-table
+returns-clause-table c = stays_of_table
+
+pub returns-clause-seen : goal.returns-clause-seen
+returns-clause-seen c = keeps_seen
+
+pub returns-clause-missed : goal.returns-clause-missed
+returns-clause-missed c = keeps_missed
+
+pub returns-clause-agrees : goal.returns-clause-agrees
+returns-clause-agrees c = agrees_before

@@ -1,0 +1,14 @@
+use Rattle.std.proofs.Common.{rules, ◌≡◌, ℕ, ◌<◌, List, [], length, map, sym, ap, subst, ◌∙◌}
+use Rattle.std.proofs.lemmas.List.{nil_from_length}
+use Rattle.std.specs.List.{All}
+use Rattle.input_cells.specs.Agreement.{Agrees, AreTrueOf, blocks_set}
+use Rattle.input_cells.specs.Faces.{InputFace, IsReadOf, SameWords, SeatFace, face_of, heard_of, looks_of}
+use Rattle.input_cells.proofs.Agreeing.{all_agree}
+use Rattle.input_cells.proofs.Ending.{AreConfirmed, all_confirmed, all_more}
+use Rattle.input_cells.proofs.table.InputTable.end.Goals as goal
+
+pub loop-reader-preserved : goal.loop-reader-preserved
+loop-reader-preserved c = all_more c.args.feeds c.loop-reader.feeds.items c.confirm.new.feeds.items c.args.readers c.loop-reader.readers.items c.pop.new.self.items c.in-Some.reader c.loop-reader.invariant c.in-Some.ensures.items c.confirm.ensures.same c.confirm.ensures.fits
+
+pub returns : goal.returns
+returns c d from ticks of_it = all_agree d from ticks c.args.self c.args.feeds c.args.readers of_it c.requires.feeds c.requires.readers (all_confirmed c.args.feeds c.loop-reader.feeds.items c.args.readers c.loop-reader.readers.items c.loop-reader.invariant (search rules))

@@ -1,0 +1,6 @@
+pub mod Faces
+pub mod Shapes
+pub mod Ticks
+pub mod Feeding
+pub mod Agreement
+pub mod Laws

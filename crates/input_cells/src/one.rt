@@ -1,0 +1,233 @@
+//! The table of one input, and a reader's seat at it.
+
+ghost use Rattle.std.specs.Prelude.{Option, List, ℤ, pos, length, slice_index_or, ◌≡◌, ◌+◌, ◌*◌, ◌<◌, ◌≤◌, ◌^◌, ◌↔◌, IfOk, IsTrue, ℕ, true, false};
+ghost use Rattle.std.specs.List.{Contains};
+ghost use Rattle.input_rule.specs.declared.view.Heard.{Heard};
+ghost use Rattle.input_rule.specs.Views.{HasMissed, HasSeen, closed_of, listened, looked, saw};
+ghost use Rattle.input_rule.specs.Words.{HasTick, block_len, block_start, presence};
+ghost use Rattle.packet_writer.specs.Heard.{HasFrames, channel_samples};
+ghost use Rattle.input_cells.specs.Faces.{GrowsAt, face_of, unfed, unread};
+ghost use Rattle.input_cells.specs.Agreement.{HasHeard, IsHeardOf};
+ghost use Rattle.input_cells.specs.Shapes.{BeginsUnfed, IsSmall};
+
+use crate::feeder::InputFeeder;
+use atomic_table::{Seat, Table};
+use input_rule::{Hands, Hears, Law, Looks, SeesClosing, Shape, View, sample_of};
+use io_caps::NoMemory;
+use std::alloc::Global;
+use std::marker::Model;
+
+/// The table of one input, or of the pace.
+#[derive(Drop)]
+pub(crate) struct OneInput {
+    pub(crate) table: Table<u8, View, Shape, Law, Global>,
+    pub(crate) shape: Shape,
+    /// The samples of a block.
+    pub(crate) block: u64,
+}
+
+impl Model for OneInput {
+    ghost use Rattle.input_cells.specs.Faces.{InputFace, IsInput};
+
+    ghost Value = { InputFace };
+
+    ghost view = { λ t. record { id = t.table.shared.table_id; shape = t.shape } };
+
+    ghost invariant = { λ t. IsInput t.table.shared.key t.table.shared.table_id t.shape t.block };
+}
+
+impl OneInput {
+    /// The table of an input to which nothing was fed, and its feeder. Its words are the first ones of the row.
+    pub(crate) fn start(
+        alloc: Global,
+        shape: Shape,
+        row: &[u64],
+    ) -> Result<(OneInput, InputFeeder), NoMemory>
+        requires small { IsSmall shape }
+        requires row { BeginsUnfed shape row.now }
+        ensures shape { IfOk result (λ t. t.0.shape ≡ shape) }
+        ensures feeder { IfOk result (λ t. t.1 ≡ unfed t.0) }
+    {
+        let block = shape.frames * shape.channels;
+        let count = 1 + (shape.ticks + shape.ticks * block) as usize;
+        let (table, seat) = Table::of_words(alloc, &row[..count], &shape)?;
+        let one = OneInput {
+            table,
+            shape,
+            block,
+        };
+        Ok((one, InputFeeder { seat }))
+    }
+
+    /// Whether the table has the tick.
+    pub(crate) fn has_tick(&self, tick: u64) -> bool
+        ensures { IsTrue result ↔ HasTick self.now.shape tick }
+    {
+        self.shape.from <= tick && tick - self.shape.from < self.shape.ticks
+    }
+
+    /// Whether a block has the frame.
+    pub(crate) fn has_frame(&self, frame: u16) -> bool
+        ensures { IsTrue result ↔ (frame < self.now.shape.frames) }
+    {
+        (frame as u64) < self.shape.frames
+    }
+
+    /// Whether a block has the channel.
+    pub(crate) fn has_channel(&self, channel: u8) -> bool
+        ensures { IsTrue result ↔ (channel < self.now.shape.channels) }
+    {
+        (channel as u64) < self.shape.channels
+    }
+
+    /// The presence word of a tick.
+    pub(crate) fn presence_word(&self, tick: u64) -> usize
+        requires { HasTick self.now.shape tick }
+        ensures word { result ≡ presence self.now.shape tick }
+        ensures within { result < self.now.id.words }
+    {
+        (tick - self.shape.from) as usize + 1
+    }
+
+    /// The first sample word of a tick, behind which all samples of the tick are words of the table.
+    pub(crate) fn block_word(&self, tick: u64) -> usize
+        requires { HasTick self.now.shape tick }
+        ensures word { result ≡ block_start self.now.shape tick }
+        ensures within { result + block_len self.now.shape ≤ self.now.id.words }
+        ensures few { self.now.id.words < 2 ^ 63 }
+    {
+        1 + (self.shape.ticks + (tick - self.shape.from) * self.block) as usize
+    }
+}
+
+impl OneInput {
+    /// Whether the blocks have so many frames of the part's channels.
+    fn has_room(&self, part: Part, frames: usize) -> bool
+        requires { frames < 2 ^ 63 }
+        ensures room { IsTrue result ↔ ((part.frame + frames) * part.channels ≤ block_len self.now.shape) }
+        ensures short { block_len self.now.shape < 2 ^ 63 }
+    {
+        (part.frame as u128 + frames as u128) * part.channels as u128 <= self.block as u128
+    }
+
+    /// The place of a sample in its block, by its frame and its channel.
+    pub(crate) fn place(&self, frame: u16, channel: u8) -> usize
+        requires frame { frame < self.now.shape.frames }
+        requires channel { channel < self.now.shape.channels }
+        requires some_tick { 0 < self.now.shape.ticks }
+        ensures place { result ≡ frame * self.now.shape.channels + channel }
+        ensures within { result < block_len self.now.shape }
+    {
+        frame as usize * self.shape.channels as usize + channel as usize
+    }
+}
+
+/// A channel of a block of so many channels, from a frame on.
+#[derive(Clone, Copy)]
+pub(crate) struct Part {
+    pub(crate) channels: usize,
+    pub(crate) channel: u8,
+    pub(crate) frame: u16,
+}
+
+/// A reader's seat at the table of one input.
+#[derive(Drop)]
+pub(crate) struct InputReader {
+    pub(crate) seat: Seat<u8, View>,
+}
+
+impl Model for InputReader {
+    ghost use Rattle.std.specs.Prelude.{◌≡◌, true, []};
+    ghost use Rattle.input_cells.specs.Faces.{SeatFace};
+
+    ghost Value = { SeatFace };
+
+    ghost view = { λ p. record { id = p.seat.table_id; view = p.seat.me.0 } };
+
+    ghost invariant = { λ p. (p.seat.me.0.live ≡ true) × (p.seat.me.1 ≡ []) };
+}
+
+impl InputReader {
+    /// A reader of the same table that has seen nothing. It is made by one load.
+    pub(crate) fn again(&mut self, table: &OneInput) -> InputReader
+        requires { face_of self.old ≡ table.now }
+        ensures new { result ≡ unread table.now }
+        ensures same { self.new ≡ self.old }
+    {
+        InputReader {
+            seat: table.table.shared.split_seat::<Hands>(&mut self.seat),
+        }
+    }
+
+    /// The closing number, by one load.
+    pub(crate) fn closed(&mut self, table: &OneInput) -> u64
+        requires { face_of self.old ≡ table.now }
+        ensures seen { self.new ≡ record self.old { view = saw self.old.view result } }
+        ensures later { closed_of self.old.view ≤ result }
+        ensures begun { self.old.view.shape.from ≤ result }
+    {
+        table.table.shared.load::<SeesClosing>(&mut self.seat, 0)
+    }
+
+    /// Whether the block of a tick is there, by one load.
+    pub(crate) fn look(&mut self, table: &OneInput, tick: u64) -> bool
+        requires table { face_of self.old ≡ table.now }
+        requires tick { HasTick table.now.shape tick }
+        ensures seen { self.new ≡ record self.old { view = looked self.old.view tick result } }
+        ensures saw { result ≡ true → HasSeen self.new.view tick }
+        ensures again { HasSeen self.old.view tick → result ≡ true }
+        ensures never { HasMissed self.old.view tick → result ≡ false }
+    {
+        let word = table.presence_word(tick);
+        table.table.shared.load::<Looks>(&mut self.seat, word) == 1
+    }
+
+    /// The sample at a place of a block that was seen, by one load.
+    pub(crate) fn listen(&mut self, table: &OneInput, tick: u64, place: usize) -> i32
+        requires table { face_of self.old ≡ table.now }
+        requires tick { HasTick table.now.shape tick }
+        requires place { place < block_len table.now.shape }
+        requires seen { HasSeen self.old.view tick }
+        ensures heard { self.new ≡ record self.old { view = listened self.old.view tick place result } }
+        ensures same { (h : Heard) → Contains self.old.view.heard h → h.tick ≡ tick → h.place ≡ place → h.value ≡ result }
+    {
+        let word = table.block_word(tick) + place;
+        sample_of(table.table.shared.load::<Hears>(&mut self.seat, word))
+    }
+    /// Copies the samples at places of a block that was seen, each so many places behind the one before, by one load each. Out of
+    /// line, so that its loop keeps its registers.
+    #[inline(never)]
+    fn copy(&mut self, table: &OneInput, tick: u64, first: usize, step: usize, out: &mut [i32])
+        requires table { face_of self.old ≡ table.now }
+        requires tick { HasTick table.now.shape tick }
+        requires seen { HasSeen self.old.view tick }
+        requires places { (n : ℕ) → n < length out.old → first + n * step < block_len table.now.shape }
+        requires short { block_len table.now.shape < 2 ^ 63 }
+        ensures grows { GrowsAt self.old self.new }
+        ensures len { length out.new ≡ length out.old }
+        ensures heard { (n : ℕ) → n < length out.old → HasHeard self.new.view tick (first + n * step) (slice_index_or out.new n (pos 0)) }
+    {
+        for n in 0..out.len() {
+            out[n] = self.listen(table, tick, first + n * step);
+        }
+    }
+
+    /// Copies the samples of a channel of a block that was seen, from a frame on. Where there are not so many, no block agrees with
+    /// what was seen, and it is silence.
+    pub(crate) fn copy_channel(&mut self, table: &OneInput, tick: u64, part: Part, out: &mut [i32])
+        requires table { face_of self.old ≡ table.now }
+        requires tick { HasTick table.now.shape tick }
+        requires seen { HasSeen self.old.view tick }
+        requires channel { part.channel < part.channels }
+        ensures grows { GrowsAt self.old self.new }
+        ensures len { length out.new ≡ length out.old }
+        ensures value { (b : Option (List ℤ)) → IsHeardOf self.new.view tick b → HasFrames b part.channels (part.frame + length out.old) → out.new ≡ channel_samples b part.channels part.channel part.frame (length out.old) }
+    {
+        if table.has_room(part, out.len()) {
+            let first = part.frame as usize * part.channels + part.channel as usize;
+            self.copy(table, tick, first, part.channels, out);
+        } else {
+            out.fill(0);
+        }
+    }
+}
