@@ -1,0 +1,15 @@
+pub mod Runs
+pub mod Places
+pub mod Telling
+pub mod Answering
+pub mod Sights
+pub mod Whole
+pub mod Serially
+pub mod Numbered
+pub mod FoundRows
+pub mod Tabled
+pub mod Gathered
+pub mod Lapped
+pub mod Sessions
+pub mod Joined
+pub mod Idle

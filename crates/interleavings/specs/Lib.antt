@@ -1,0 +1,7 @@
+pub mod Events
+pub mod Legal
+pub mod Run
+pub mod Serial
+pub mod Told
+pub mod Facts
+pub mod Steps
