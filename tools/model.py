@@ -11,6 +11,9 @@ from dataclasses import dataclass, field
 from typing import Dict, List, Optional, Tuple, Union
 
 RATES = (44100, 48000, 96000, 192000)
+STAMPS = 1 << 32  # timestamps are told up to multiples of it
+SECONDS = 1 << 40  # the end of time
+PAST_BASE = 1 << 23  # so many ticks from the first one start before it
 WIDTHS = {16: 2, 24: 3}  # the bytes of a sample, by its bits
 ID_BYTES = frozenset(b"0123456789ABCDEFGHIJKLMNOPQRSTUVWXYZabcdefghijklmnopqrstuvwxyz-_")
 Cell = Optional[Tuple[int, int]]  # an input and its channel, or unrouted
@@ -69,6 +72,8 @@ class Port:
 @dataclass
 class Device:
     frames: int
+    base: int
+    hold: int
     inputs: list[Port]
     outputs: list[Port]
 
@@ -92,11 +97,14 @@ def read_port(body: Reader, output: bool) -> Port:
 def read_device(data: bytes) -> Device:
     body = Reader(data)
     hz, frames, base, hold = body.number(4), body.number(2), body.number(8), body.number(1)
-    require(hz in RATES and 1 <= frames <= 240 and base == 0 and hold <= 64)
+    require(hz in RATES and 1 <= frames <= 240 and hold <= 64)
+    require((base + PAST_BASE) * frames < hz * SECONDS)
     counts = body.number(1), body.number(1)
     require(counts[0] <= 16 and 1 <= counts[1] <= 32)
     device = Device(
         frames,
+        base,
+        hold,
         [read_port(body, False) for _ in range(counts[0])],
         [read_port(body, True) for _ in range(counts[1])],
     )
@@ -104,28 +112,72 @@ def read_device(data: bytes) -> Device:
     for ports in (device.inputs, device.outputs):
         require(len({port.name for port in ports}) == len(ports))
     require(sum(port.channels for port in device.inputs) <= 128)
-    require(all(port.width == 2 for port in device.inputs))
+    require(all(port.width in (2, 3) for port in device.inputs))
     for port in device.outputs:
         require(port.width in (2, 3) and frames * port.channels * port.width <= 1440)
         require(all(device.has(cell) for cell in port.row))
     return device
 
 
-def read_packet(device: Device, data: bytes, newest: dict[int, int]) -> tuple[int, int, bytes]:
-    """A packet's input, tick and payload."""
-    body = Reader(data)
-    source = body.number(1)
-    require(source < len(device.inputs))
-    port = device.inputs[source]
-    require(body.take(2) == bytes([0x80, port.payload_type]))
-    body.take(2)
-    timestamp = body.number(4)
-    require(timestamp % device.frames == 0 and newest.get(source, -1) < timestamp < 1 << 31)
-    newest[source] = timestamp
-    body.take(4)
-    payload = body.take(device.frames * port.channels * port.width)
-    body.end()
-    return source, timestamp // device.frames, payload
+def read_rtp(data: bytes) -> Optional[Tuple[int, int, bytes]]:
+    """Payload type, timestamp and payload of an RTP packet (RFC 3550 section 5.1), or None where the bytes are none."""
+    if len(data) < 12 or data[0] >> 6 != 2:
+        return None
+    rest = data[12:]
+    csrcs = 4 * (data[0] & 15)
+    if len(rest) < csrcs:
+        return None
+    rest = rest[csrcs:]
+    if data[0] & 16:
+        words = 4 * int.from_bytes(rest[2:4], "big")
+        if len(rest) < 4 or len(rest) < 4 + words:
+            return None
+        rest = rest[4 + words :]
+    if data[0] & 32:
+        padding = rest[-1] if rest else 0
+        if not 1 <= padding <= len(rest):
+            return None
+        rest = rest[: len(rest) - padding]
+    return data[1] & 127, int.from_bytes(data[4:8], "big"), rest
+
+
+class Stream:
+    """What an input's packets bring to a session: the samples of its frames, counted from the first one."""
+
+    def __init__(self, device: Device, port: Port, ticks: int) -> None:
+        self.device, self.port, self.ticks = device, port, ticks
+        self.frames: dict[int, bytes] = {}
+        self.closed = 0  # so many ticks take nothing more
+
+    def take(self, data: bytes) -> None:
+        """A packet counts where it is one of RTP with the input's type, holds whole frames and at least one, and begins before the
+        session's end. The first packet that brings a frame of an open tick keeps it. Then ticks close that lie more than `hold` before
+        the packet's last one.
+        """
+        packet = read_rtp(data)
+        size = self.port.channels * self.port.width
+        if packet is None or packet[0] != self.port.payload_type or len(packet[2]) % size > 0:
+            return
+        count = len(packet[2]) // size
+        start = (packet[1] - self.device.base * self.device.frames + STAMPS // 2) % STAMPS - STAMPS // 2
+        if count == 0 or start >= self.ticks * self.device.frames:
+            return
+        for number in range(max(0, -start), count):
+            frame = start + number
+            if self.closed <= frame // self.device.frames < self.ticks:
+                self.frames.setdefault(frame, packet[2][number * size : number * size + size])
+        last = (start + count - 1) // self.device.frames
+        self.closed = max(self.closed, min(last - self.device.hold, self.ticks))
+
+    def has_block(self, tick: int) -> bool:
+        """Whether a packet brought a frame of the tick."""
+        return any(frame in self.frames for frame in range(tick * self.device.frames, (tick + 1) * self.device.frames))
+
+    def sample(self, frame: int, channel: int) -> int:
+        """A sample of 24 bits; silence where no packet brought the frame."""
+        width = self.port.width
+        data = self.frames.get(frame, bytes(width * self.port.channels))[channel * width : channel * width + width]
+        return int.from_bytes(data, "big", signed=True) << (8 * (3 - width))
 
 
 def read_activation(device: Device, data: bytes) -> Changes:
@@ -150,12 +202,12 @@ def record(tag: bytes, body: bytes) -> bytes:
 
 
 class Player:
-    """A device at work: its rows by tick, its blocks, and the result so far."""
+    """A device at work: its rows by tick, what its inputs brought, and the result so far."""
 
-    def __init__(self, device: Device, blocks: dict[tuple[int, int], bytes]) -> None:
+    def __init__(self, device: Device, streams: list[Stream]) -> None:
         self.device = device
-        self.blocks = blocks
-        self.rows = [[(0, output.row)] for output in device.outputs]
+        self.streams = streams
+        self.rows = [[(device.base, output.row)] for output in device.outputs]
         self.claims = 0
         self.calls = 0
         self.replies = b""  # they stand behind all calls of their number of claims
@@ -164,30 +216,27 @@ class Player:
     def row(self, output: int, tick: int) -> list[Cell]:
         return [row for start, row in self.rows[output] if start <= tick][-1]
 
-    def sample(self, cell: Cell, tick: int, frame: int) -> int:
-        """A sample of 24 bits; silence where there is no block."""
-        if cell is None or (cell[0], tick) not in self.blocks:
-            return 0
-        at = 2 * (frame * self.device.inputs[cell[0]].channels + cell[1])
-        return int.from_bytes(self.blocks[cell[0], tick][at : at + 2], "big", signed=True) * 256
+    def sample(self, cell: Cell, frame: int) -> int:
+        return 0 if cell is None else self.streams[cell[0]].sample(frame, cell[1])
 
     def claim(self) -> None:
-        tick, output = divmod(self.claims, len(self.device.outputs))
+        place, output = divmod(self.claims, len(self.device.outputs))
+        tick = self.device.base + place
         port, row = self.device.outputs[output], self.row(output, tick)
         named = {cell[0] for cell in row if cell is not None}
-        found = bytes(source in named and (source, tick) in self.blocks for source in range(len(self.device.inputs)))
-        timestamp = tick * self.device.frames % (1 << 32)
+        found = bytes(source in named and stream.has_block(place) for source, stream in enumerate(self.streams))
+        timestamp = tick * self.device.frames % STAMPS
         packet = struct.pack(">BBHII", 0x80, port.payload_type, tick % (1 << 16), timestamp, port.ssrc)
-        for frame in range(self.device.frames):
+        for frame in range(place * self.device.frames, (place + 1) * self.device.frames):
             for cell in row:
-                sample = self.sample(cell, tick, frame) >> (8 * (3 - port.width))
+                sample = self.sample(cell, frame) >> (8 * (3 - port.width))
                 packet += sample.to_bytes(port.width, "big", signed=True)
         self.result += self.replies + record(b"C", self.claims.to_bytes(8, "big") + found + packet)
         self.replies = b""
         self.claims += 1
 
     def activate(self, body: bytes, changes: Changes) -> None:
-        tick = -(-self.claims // len(self.device.outputs))
+        tick = self.device.base - (-self.claims // len(self.device.outputs))
         for output, cells in changes.items():
             row = [cells.get(channel, cell) for channel, cell in enumerate(self.row(output, tick))]
             self.rows[output].append((tick, row))
@@ -209,14 +258,13 @@ def result(data: bytes) -> bytes:
     require(tag == b"D")
     device = read_device(body)
     events: List[Union[int, Tuple[bytes, Changes]]] = []  # so many claims, or an activation
-    blocks: dict[tuple[int, int], bytes] = {}
-    newest: dict[int, int] = {}
+    packets: List[Tuple[int, bytes]] = []
     entries, claims = len(device.outputs), 0
     tag, body = text.record()
     while tag != b"E":
         if tag == b"P":
-            source, tick, payload = read_packet(device, body, newest)
-            blocks[source, tick] = payload
+            require(len(body) >= 1 and body[0] < len(device.inputs))
+            packets.append((body[0], body[1:]))
         elif tag == b"A":
             changes = read_activation(device, body)
             events.append((body, changes))
@@ -229,7 +277,10 @@ def result(data: bytes) -> bytes:
     require(body == b"")
     text.end()
     require(entries <= 512 and claims % len(device.outputs) == 0 and claims // len(device.outputs) <= 256)
-    player = Player(device, blocks)
+    streams = [Stream(device, port, claims // len(device.outputs)) for port in device.inputs]
+    for source, packet in packets:
+        streams[source].take(packet)
+    player = Player(device, streams)
     for event in events:
         if isinstance(event, int):
             for _ in range(event):

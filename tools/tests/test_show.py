@@ -1,10 +1,9 @@
-"""Tests of tools/show. Run: python3 tools/test_show.py"""
+"""Tests of tools/show and of what it stands on, tools/records."""
 
 from __future__ import annotations
 
 import errno
-import importlib.machinery
-import importlib.util
+import json
 import os
 import pathlib
 import random
@@ -15,11 +14,15 @@ import tempfile
 import unittest
 
 sys.dont_write_bytecode = True
-PROGRAM = pathlib.Path(__file__).resolve().with_name("show")
-LOADER = importlib.machinery.SourceFileLoader("show", str(PROGRAM))
-show = importlib.util.module_from_spec(importlib.util.spec_from_loader("show", LOADER))
-sys.modules["show"] = show
-LOADER.exec_module(show)
+TOOLS = pathlib.Path(__file__).resolve().parents[1]
+sys.path.insert(0, str(TOOLS))
+from records.reading import Device, Port, Record, View, quoted, read  # noqa: E402
+from records.text import unquoted  # noqa: E402
+from records.timeline import ruler, timeline  # noqa: E402
+from records.words import DEFAULT_SAMPLES, line_of as words_line  # noqa: E402
+
+PROGRAM = TOOLS / "show"
+CRATE = TOOLS.parent / "crates" / "chanmap"
 
 CAPTURE_MAGIC = "43484d434150310a"
 RESULT_MAGIC = "43484d524553310a"
@@ -75,10 +78,13 @@ RESULT_LINES = """\
 """
 
 
-def lines_of(data: bytes, view: show.View | None = None) -> tuple[list[str], list[str]]:
+def lines_of(
+    data: bytes, view: View | None = None, samples: int = DEFAULT_SAMPLES
+) -> tuple[list[str], list[str]]:
     """The lines and, of these, the faults."""
-    view = view or show.View()
-    return list(show.show(data, view)), view.faults
+    view = view or View()
+    lines = [words_line(one, samples) for one in read(data, view)]
+    return lines, [words_line(one) for one in view.faults]
 
 
 def record(tag: str, body: str) -> str:
@@ -91,9 +97,9 @@ def line_of(tag: str, body: str, with_device: bool = True) -> str:
         device = record("D", DEVICE) if with_device else ""
         lines, faults = lines_of(bytes.fromhex(CAPTURE_MAGIC + device + record(tag, body) + END))
     else:
-        view = show.View()
+        view = View()
         if with_device:
-            list(show.show(CAPTURE, view))
+            list(read(CAPTURE, view))
         lines, faults = lines_of(bytes.fromhex(RESULT_MAGIC + record(tag, body) + END), view)
     if faults:
         raise AssertionError(faults)
@@ -116,13 +122,12 @@ class WorkedBytes(unittest.TestCase):
         self.assertEqual((len(CAPTURE), len(RESULT)), (132, 311))
 
     def test_stored_run(self) -> None:
-        folder = PROGRAM.parent.parent / "crates" / "chanmap"
-        self.assertEqual((folder / "stdin").read_bytes(), CAPTURE)
-        self.assertEqual((folder / "stdout").read_bytes(), RESULT)
-        self.assertEqual((folder / "args").read_text(), "serial\n")
+        self.assertEqual((CRATE / "stdin").read_bytes(), CAPTURE)
+        self.assertEqual((CRATE / "stdout").read_bytes(), RESULT)
+        self.assertEqual((CRATE / "args").read_text(), "serial\n")
 
     def test_worked_example_of_the_document(self) -> None:
-        text = (PROGRAM.parent.parent / "docs" / "FORMATS.md").read_text(encoding="utf-8")
+        text = (TOOLS.parent / "docs" / "FORMATS.md").read_text(encoding="utf-8")
         _, capture, result = text[text.index("\n## A worked example") :].split("\n### The ")
         for part, data in ((capture, CAPTURE), (result, RESULT)):
             spelled = b""
@@ -137,8 +142,8 @@ class WorkedBytes(unittest.TestCase):
         self.assertEqual(faults, [])
 
     def test_result_with_device(self) -> None:
-        view = show.View()
-        list(show.show(CAPTURE, view))
+        view = View()
+        list(read(CAPTURE, view))
         lines, faults = lines_of(RESULT, view)
         self.assertEqual("\n".join(lines) + "\n", RESULT_LINES)
         self.assertEqual(faults, [])
@@ -160,11 +165,11 @@ class WorkedBytes(unittest.TestCase):
         )
 
     def test_number_of_samples(self) -> None:
-        lines, _ = lines_of(CAPTURE, show.View(3))
+        lines, _ = lines_of(CAPTURE, samples=3)
         self.assertTrue("\n".join(lines).splitlines()[5].endswith(": 1111 2222 | 3333 .."))
-        lines, _ = lines_of(CAPTURE, show.View(0))
+        lines, _ = lines_of(CAPTURE, samples=0)
         self.assertTrue("\n".join(lines).splitlines()[5].endswith(", 8 payload bytes"))
-        lines, _ = lines_of(RESULT, show.View(1))
+        lines, _ = lines_of(RESULT, samples=1)
         self.assertTrue(lines[1].endswith(", 8 payload bytes: 00 00 00 .."))
 
 
@@ -188,7 +193,7 @@ class Records(unittest.TestCase):
         )
 
     def test_base_is_the_first_tick(self) -> None:
-        view = show.View(0, show.Device(5, 1, [], [show.Port("x", 1, 16), show.Port("y", 1, 24)]))
+        view = View(Device(5, 1, [], [Port("x", 1, 16), Port("y", 1, 24)]))
         packet = "8061 0007 00000007 00000002 000000"
         data = RESULT_MAGIC + record("C", f"0000000000000005 {packet}") + END
         lines, faults = lines_of(bytes.fromhex(data), view)
@@ -362,13 +367,63 @@ class Faults(unittest.TestCase):
             self.assertRegex(lines[0], r"^(cut|unknown) at 0: ")
 
 
+class Escapes(unittest.TestCase):
+    def test_each_text_is_got_again(self) -> None:
+        chance = random.Random(3)
+        texts = [b"\\x41 \\ \n", "\u0080 \u2028 \u00fc".encode(), b"\xff\x80", b""]
+        texts += [chance.randbytes(chance.randrange(40)) for _ in range(2000)]
+        for text in texts:
+            self.assertTrue(quoted(text).isprintable())
+            self.assertEqual(unquoted(quoted(text)), text)
+
+
+class Timeline(unittest.TestCase):
+    def lines(self, *words: str) -> list[str]:
+        status, out, err = run("--timeline", *words, str(CRATE / "stdin"), str(CRATE / "stdout"))
+        self.assertEqual((status, err), (0, ""))
+        return out.splitlines()
+
+    def test_the_stored_run(self) -> None:
+        expected = [
+            "tick      0",
+            "input a     #",
+            "output x  ..#",
+            "output y  ..#",
+            "calls       1",
+            "",
+            "call 1 from tick 2: activation at once: x 0 <- a 0, y 0 <- a 1",
+        ]
+        self.assertEqual(self.lines()[:-1], expected)
+
+    def test_an_output_and_ticks(self) -> None:
+        lines = self.lines("--output", "y", "--ticks", "1..1")
+        self.assertEqual(lines[:4], ["tick      1", "input a", "output y  .", "calls"])
+
+    def test_many_ticks_and_calls(self) -> None:
+        device = Device(0, 1, [], [Port("x", 1, 16)], 48000)
+        claims = [
+            Record(0, "claim", {"output": "x", "tick": tick, "payload": "0000"}) for tick in range(61)
+        ]
+        asked = {"ask": "activation", "mode": "at once", "action": []}
+        calls = [
+            Record(0, "call", {"id": number, "tick": tick, **asked})
+            for number, tick in ((3, 0), (10, 1), (4, 2), (5, 2))
+        ]
+        lines = list(timeline(claims + calls, device).lines())
+        self.assertEqual(lines[0], "tick      0         10        20        30        40        50")
+        self.assertEqual(lines[1:3], ["output x  " + "." * 60, "calls     3*+"])
+        self.assertEqual(lines[4:6], ["tick      60", "output x  ."])
+
+    def test_ruler(self) -> None:
+        self.assertEqual(ruler(range(1234, 1256)), "1234  1240      1250")
+
+
 class Command(unittest.TestCase):
     def test_standard_input(self) -> None:
         self.assertEqual(run(data=CAPTURE), (0, CAPTURE_LINES, ""))
 
     def test_file_with_device(self) -> None:
-        folder = PROGRAM.parent.parent / "crates" / "chanmap"
-        words = ["--device", str(folder / "stdin"), str(folder / "stdout")]
+        words = ["--device", str(CRATE / "stdin"), str(CRATE / "stdout")]
         self.assertEqual(run(*words), (0, RESULT_LINES, ""))
 
     def test_status_of_faults(self) -> None:
@@ -377,8 +432,7 @@ class Command(unittest.TestCase):
         self.assertTrue(out.endswith("cut at 127: head of 5 bytes, 4 there\n"))
 
     def test_device_file_without_device(self) -> None:
-        folder = PROGRAM.parent.parent / "crates" / "chanmap"
-        status, out, err = run("--device", str(folder / "stdout"), data=RESULT)
+        status, out, err = run("--device", str(CRATE / "stdout"), data=RESULT)
         self.assertEqual((status, out), (1, ""))
         self.assertTrue(err.startswith("show: no device in "))
 
@@ -414,10 +468,73 @@ class Command(unittest.TestCase):
         line = f"show: {os.strerror(errno.ENOSPC)}\n"
         self.assertEqual((done.returncode, done.stderr.decode()), (2, line))
 
+    def test_capture_and_result(self) -> None:
+        files = [str(CRATE / "stdin"), str(CRATE / "stdout")]
+        self.assertEqual(run(*files), (0, CAPTURE_LINES + RESULT_LINES, ""))
+        self.assertEqual(run(*reversed(files)), (0, RESULT_LINES + CAPTURE_LINES, ""))
+        self.assertEqual(run(*files, "third")[0], 2)
+
+    def picked(self, *words: str) -> list[str]:
+        status, out, err = run(*words, str(CRATE / "stdin"), str(CRATE / "stdout"))
+        self.assertEqual((status, err), (0, ""))
+        return out.splitlines()
+
+    def test_only(self) -> None:
+        lines = self.picked("--only", "call,reply,work")
+        self.assertEqual([line.split()[1] for line in lines], ["work", "work", "call", "reply"])
+        status, out, err = run("--only", "claims", data=RESULT)
+        self.assertEqual((status, out), (2, ""))
+        self.assertIn("'claims' is none of capture, result, device,", err)
+
+    def test_output_and_ticks(self) -> None:
+        self.assertEqual(
+            [line.split(",")[0] for line in self.picked("--only", "claim", "--output", "y")],
+            ["      42  claim    1", "     196  claim    3", "     268  claim    5"],
+        )
+        for ticks, places in (
+            ("1..", [65, 80, 114, 196, 234, 268]),
+            ("..0", [8, 42]),
+            ("2", [65, 114, 234, 268]),
+            ("3..1", []),
+        ):
+            with self.subTest(ticks=ticks):
+                lines = self.picked("--ticks", ticks, "--only", "packet,claim,call")
+                self.assertEqual([int(line.split()[0]) for line in lines], places)
+        status, out, err = run("--ticks", "1..2", data=RESULT)
+        self.assertEqual((status, err), (2, "show: --output and --ticks want a device: show CAPTURE RESULT\n"))
+
+    def test_words_that_want_a_device(self) -> None:
+        line = "show: --timeline wants a device: show --timeline CAPTURE RESULT\n"
+        self.assertEqual(run("--timeline", data=RESULT), (2, "", line))
+
+    def test_json(self) -> None:
+        records = [json.loads(line) for line in self.picked("--json")]
+        self.assertEqual([one["at"] for one in records if one["record"] == "claim"][-1], 268)
+        self.assertEqual(
+            records[-2],
+            {
+                **{"at": 268, "record": "claim", "claim": 5, "output": "y", "tick": 2},
+                **{"found": ["a"], "type": 97, "sequence": 2, "timestamp": 4, "ssrc": 2},
+                **{"marker": False, "csrcs": [], "extension_words": None, "padding_bytes": 0},
+                **{"payload": "222200000000444400000000", "channels": 2, "sample_bytes": 3},
+            },
+        )
+
+    def test_color(self) -> None:
+        lines = self.picked("--color", "always")
+        self.assertEqual(lines[0], "       0  \033[1mcapture\033[0m")
+        plain = [re.sub("\033\\[[0-9]*m", "", line) for line in lines]
+        self.assertEqual("\n".join(plain) + "\n", CAPTURE_LINES + RESULT_LINES)
+        self.assertTrue(run("--color=always", data=b"x")[1].startswith("\033[31munknown at 0: "))
+
+    def test_version(self) -> None:
+        self.assertRegex(run("--version")[1], r"^show \d+\.\d+, of chanmap")
+
     def test_help(self) -> None:
         status, out, _ = run("--help")
         self.assertEqual(status, 0)
         self.assertIn("--device FILE", out)
+        self.assertIn("examples:", out)
 
 
 if __name__ == "__main__":

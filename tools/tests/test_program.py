@@ -1,7 +1,7 @@
 """Tests of the built program from outside: its words, streams, statuses and lines, and its results beside those of
 tools/model.py.
 
-Run: python3 tools/test_program.py     (the program must be built: tools/demo)
+Run: python3 tools/tests/test_program.py     (the program must be built: `rt run` in crates/chanmap)
 """
 
 from __future__ import annotations
@@ -16,10 +16,10 @@ import tempfile
 import unittest
 
 sys.dont_write_bytecode = True
-sys.path.insert(0, str(pathlib.Path(__file__).resolve().parent))
-import model  # noqa: E402 (it stands beside this file)
+sys.path.insert(0, str(pathlib.Path(__file__).resolve().parents[1]))
+import model  # noqa: E402 (it stands one folder above)
 
-CRATE = pathlib.Path(__file__).resolve().parents[1] / "crates" / "chanmap"
+CRATE = pathlib.Path(__file__).resolve().parents[2] / "crates" / "chanmap"
 PROGRAM = CRATE / "out" / "chanmap"
 CAPTURE = (CRATE / "stdin").read_bytes()
 RESULT = (CRATE / "stdout").read_bytes()
@@ -32,6 +32,11 @@ def run(words: list[str | bytes], data: bytes = b"", **options) -> tuple[int, by
     """The status, and what went to standard output and standard error."""
     done = subprocess.run([str(PROGRAM), *words], input=data, capture_output=True, timeout=120, check=False, **options)
     return done.returncode, done.stdout, done.stderr
+
+
+def setUpModule() -> None:
+    if not PROGRAM.exists():
+        raise unittest.SkipTest("the program isn't built")
 
 
 class Words(unittest.TestCase):
@@ -149,7 +154,11 @@ class Captures:
     def __init__(self, seed: int) -> None:
         self.random = random.Random(seed)
         self.frames = self.random.choice([1, 2, 3, 48])
+        wrap = (1 << 32) // self.frames
+        self.base = self.random.choice([0, 0, 1, wrap - 2, wrap // 2, 3 * wrap - 1, 1 << 40])
+        self.hold = self.random.choice([0, 0, 1, 2, 64])
         self.inputs = [self.random.randint(1, 3) for _ in range(self.random.randint(0, 3))]
+        self.bits = [self.random.choice([16, 24]) for _ in self.inputs]
         self.outputs = [self.random.randint(1, 3) for _ in range(self.random.randint(1, 3))]
 
     def cell(self) -> bytes:
@@ -159,19 +168,53 @@ class Captures:
         return bytes([source, self.random.randrange(self.inputs[source])])
 
     def device(self) -> bytes:
-        body = (48000).to_bytes(4, "big") + self.frames.to_bytes(2, "big") + bytes(8)
-        body += bytes([self.random.randint(0, 64), len(self.inputs), len(self.outputs)])
+        body = (48000).to_bytes(4, "big") + self.frames.to_bytes(2, "big") + self.base.to_bytes(8, "big")
+        body += bytes([self.hold, len(self.inputs), len(self.outputs)])
         for number, channels in enumerate(self.inputs):
-            body += bytes([1, ord("a") + number, channels, 16, 96, 1, 1])
+            body += bytes([1, ord("a") + number, channels, self.bits[number], 96, 1, 1])
         for number, channels in enumerate(self.outputs):
             body += bytes([1, ord("x") + number, channels, self.random.choice([16, 24]), 97])
             body += self.random.randbytes(4) + b"\xff" + b"".join(self.cell() for _ in range(channels))
         return model.record(b"D", body)
 
-    def packet(self, source: int, tick: int) -> bytes:
-        head = b"\x80\x60" + self.random.randbytes(2) + (tick * self.frames).to_bytes(4, "big") + self.random.randbytes(4)
-        samples = self.random.randbytes(2 * self.frames * self.inputs[source])
-        return model.record(b"P", bytes([source]) + head + samples)
+    def frame(self, ticks: int) -> int:
+        """The first frame of a packet, from the session's first: near the session, or anywhere."""
+        if self.random.random() < 0.05:
+            return self.random.choice([-(1 << 31), (1 << 31) - 1, ticks * self.frames, self.random.randrange(1 << 32)])
+        if self.random.random() < 0.5:
+            return self.frames * self.random.randrange(-2, ticks + 2)
+        return self.random.randrange(-2 * self.frames - 1, (ticks + 1) * self.frames + 1)
+
+    def head(self, frame: int) -> bytes:
+        """A head, of which some have CSRCs, an extension, padding or a marker; without what follows the fixed part."""
+        first = 0x80 if self.random.random() < 0.7 else 0x80 | self.random.choice([0x01, 0x02, 0x10, 0x20, 0x31, 0x0F])
+        second = 0x60 if self.random.random() < 0.9 else self.random.choice([0xE0, 0x61])
+        timestamp = (self.base * self.frames + frame) % (1 << 32)
+        return bytes([first, second]) + self.random.randbytes(2) + timestamp.to_bytes(4, "big") + self.random.randbytes(4)
+
+    def around(self, head: bytes, payload: bytes) -> bytes:
+        """The packet of a head: what its first byte says stands around the payload."""
+        packet = head + self.random.randbytes(4 * (head[0] & 15))
+        if head[0] & 0x10:
+            words = self.random.randrange(3)
+            packet += self.random.randbytes(2) + words.to_bytes(2, "big") + self.random.randbytes(4 * words)
+        padding = self.random.randint(1, 5) if head[0] & 0x20 else 0
+        return packet + payload + self.random.randbytes(max(0, padding - 1)) + bytes([padding])[: min(padding, 1)]
+
+    def packet(self, source: int, ticks: int) -> bytes:
+        """A packet's record: most are of RTP and of whole frames, some cut, and some any bytes."""
+        count = self.frames if self.random.random() < 0.5 else self.random.randrange(3 * self.frames + 1)
+        payload = self.random.randbytes(count * self.inputs[source] * self.bits[source] // 8)
+        packet = self.around(self.head(self.frame(ticks)), payload)
+        chance = self.random.random()
+        if chance < 0.1:
+            packet = packet[: self.random.randrange(len(packet) + 1)]
+        elif chance < 0.15:
+            packet = self.random.randbytes(self.random.choice([0, 1, 11, 12, 16, 40, 2000]))
+        elif chance < 0.2:
+            place = self.random.randrange(min(20, len(packet)))
+            packet = packet[:place] + self.random.randbytes(1) + packet[place + 1 :]
+        return model.record(b"P", bytes([source]) + packet)
 
     def activation(self) -> bytes:
         outputs = sorted(self.random.sample(range(len(self.outputs)), self.random.randint(1, len(self.outputs))))
@@ -192,9 +235,8 @@ class Captures:
             records.insert(self.random.randint(0, len(records)), model.record(b"T", part.to_bytes(4, "big")))
             claims -= part
         for source in range(len(self.inputs)):
-            places = sorted(self.random.randint(0, len(records)) for tick in range(ticks) if self.random.random() < 0.8)
-            for tick, place in reversed(list(enumerate(places))):
-                records.insert(place, self.packet(source, tick))
+            for _ in range(self.random.randint(0, ticks + 3)):
+                records.insert(self.random.randint(0, len(records)), self.packet(source, ticks))
         return records
 
     def whole(self, records: list[bytes]) -> bytes:
@@ -246,5 +288,5 @@ class Model(unittest.TestCase):
 
 if __name__ == "__main__":
     if not PROGRAM.exists():
-        sys.exit("test_program: the program isn't built: run tools/demo")
+        sys.exit("test_program: the program isn't built: run `rt run` in crates/chanmap")
     unittest.main()
