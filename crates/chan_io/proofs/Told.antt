@@ -1,5 +1,6 @@
 -- What is told of the bytes after one call and another.
-use Rattle.std.proofs.Common.{◌≡◌, ℕ, ◌+◌, ◌-◌, List, [], ◌++◌, length, take, drop, Option, Some, None, refl, sym, ap, ◌∙◌, append_assoc, arith}
+use Rattle.std.proofs.Common.{◌≡◌, ℕ, ◌+◌, ◌-◌, List, [], ◌++◌, length, take}
+use Rattle.std.proofs.Common.{drop, Option, Some, None, refl, sym, ap, ◌∙◌, append_assoc, arith}
 use Rattle.std.proofs.Math.Seq.{take-add}
 use Rattle.std.proofs.lemmas.Slice.{between_to_end}
 use Rattle.std.proofs.lemmas.List.{append-nil}
@@ -39,9 +40,11 @@ Appends-then (Some xs) (Some ys) None x y p q = absurd q
 Appends-then (Some xs) (Some ys) (Some zs) x y p q = q ∙ ap (λ (t : List ℕ). t ++ y) p ∙ append_assoc xs x y
 
 -- What took the first i bytes of a text, and then the n behind them, took the first i + n.
-pub Appends-more : (a b c : Option (List ℕ)) (text : List ℕ) (i n : ℕ) → Appends a b (take i text) → Appends b c (take n (take (length text - i) (drop i text))) → Appends a c (take (i + n) text)
+pub Appends-more : (a b c : Option (List ℕ)) (text : List ℕ) (i n : ℕ) → Appends a b (take i text)
+    → Appends b c (take n (take (length text - i) (drop i text))) → Appends a c (take (i + n) text)
 Appends-more a b c text i n p q =
     let rest : take (length text - i) (drop i text) ≡ drop i text = between_to_end text i (length text) (omega arith) in
     rw (take-add i n text) (Appends-then a b c (take i text) (take n (drop i text)) p (rw rest at q))
 
+-- the lemmas above, for loops over a source or a sink
 pub ruleset steps = (TellsAlike-same, TellsAlike-then, Consumes-nothing, Consumes-then, Appends-nothing, Appends-then)

@@ -1,6 +1,7 @@
--- What a read does to the bytes that a source has left, and a write to the bytes that a sink has taken, where these
--- are told. (This project's own.)
-use Rattle.std.specs.Prelude.{◌≡◌, ℕ, ◌+◌, ◌<◌, ◌≤◌, List, ◌++◌, length, take, ⊤, Option, Some, None, Result, MatchResult}
+-- What a read does to the bytes that a source has left, and a write to the bytes that a sink has
+-- taken, where these are told. (This project's own.)
+use Rattle.std.specs.Prelude.{◌≡◌, ℕ, ◌+◌, ◌<◌, ◌≤◌, List, ◌++◌, length, take}
+use Rattle.std.specs.Prelude.{⊤, Option, Some, None, Result, MatchResult}
 use Rattle.std.specs.Io.KnownBytes.{Consumes, Appends, IsAtEnd}
 
 -- A call tells its bytes after it just where it told them before it.
@@ -10,20 +11,22 @@ TellsAlike None (Some ys) = ⊥
 TellsAlike (Some xs) None = ⊥
 TellsAlike (Some xs) (Some ys) = ⊤
 
--- A read moves to the front of the buffer the bytes that it counts, and none only at the end of the source or where
--- the buffer has no room. A failed read leaves what is told unchanged.
+-- A read moves to the front of the buffer the bytes that it counts, and none only at the end of the
+-- source or where the buffer has no room. A failed read leaves what is told unchanged.
 abbrev pub Reads : {E : Type 0} → Option (List ℕ) → Option (List ℕ) → Result ℕ E → List ℕ → Type 0
 Reads old new result buf =
     MatchResult result
-    (λ n. (n ≤ length buf) × TellsAlike old new × Consumes old new (take n buf) × (n ≡ 0 → 0 < length buf → IsAtEnd new))
+    (λ n. (n ≤ length buf) × TellsAlike old new × Consumes old new (take n buf)
+    × (n ≡ 0 → 0 < length buf → IsAtEnd new))
     (λ _. new ≡ old)
 
--- A write takes the first bytes of the piece, as many as it counts, and at least one where there is one. A failed
--- write leaves what is told unchanged.
+-- A write takes the first bytes of the piece, as many as it counts, and at least one where there is
+-- one. A failed write leaves what is told unchanged.
 abbrev pub Writes : {E : Type 0} → Option (List ℕ) → Option (List ℕ) → Result ℕ E → List ℕ → Type 0
 Writes old new result piece =
     MatchResult result
-    (λ n. (n ≤ length piece) × (0 < length piece → 0 < n) × TellsAlike old new × Appends old new (take n piece))
+    (λ n. (n ≤ length piece) × (0 < length piece → 0 < n) × TellsAlike old new
+    × Appends old new (take n piece))
     (λ _. new ≡ old)
 
 -- A source was read to its end: it gave these bytes, at most `limit` of them, and has none left.

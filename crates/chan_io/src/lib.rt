@@ -1,6 +1,6 @@
-//! The outside as traits: sources that bytes are read from and sinks that bytes are written to, each with a count of
-//! its faults; both in memory and over the standard streams; and the reading of a whole source and the writing of a
-//! whole text.
+//! The outside as traits: sources that bytes are read from and sinks that bytes are written to,
+//! each with a count of its faults; both in memory and over the standard streams; and the reading
+//! of a whole source and the writing of a whole text.
 #![tactic(auto)]
 
 mod memory;

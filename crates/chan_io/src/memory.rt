@@ -19,10 +19,11 @@ pub struct MemSource {
 }
 
 impl MemSource {
-    ghost use Rattle.chan_io.specs.Memory.{bytes_left, source_piece, source_fails, source_calls, source_faults};
+    ghost use Rattle.chan_io.specs.Memory.{bytes_left, source_piece, source_fails};
+    ghost use Rattle.chan_io.specs.Memory.{source_calls, source_faults};
 
-    /// A source of these bytes, which hands over at most `piece` of them a read, and at least one of those that are
-    /// left. The reads whose numbers, counted from 0, are in `fails` fail.
+    /// A source of these bytes, which hands over at most `piece` of them a read, and at least one
+    /// of those that are left. The reads whose numbers, counted from 0, are in `fails` fail.
     pub fn new(bytes: Vec<u8>, piece: usize, fails: Vec<u64>) -> MemSource
         requires { 0 < piece }
         ensures left { bytes_left result ≡ bytes.items }
@@ -43,22 +44,28 @@ impl MemSource {
 }
 
 impl Source for MemSource {
-    ghost use Rattle.std.specs.Prelude.{Some, IsTrue, is_err, IfOk, Contains, ◌↔◌, min, length, ◌≡◌};
+    ghost use Rattle.std.specs.Prelude.{Some, IsTrue, is_err, IfOk};
+    ghost use Rattle.std.specs.Prelude.{Contains, ◌↔◌, min, length, ◌≡◌};
     ghost use Rattle.chan_io.specs.Causes.{HasCause, CountsFault, raised};
     ghost use Rattle.chan_io.specs.Streams.{Reads};
-    ghost use Rattle.chan_io.specs.Memory.{bytes_left, source_piece, source_fails, source_calls, source_faults};
+    ghost use Rattle.chan_io.specs.Memory.{bytes_left, source_piece, source_fails};
+    ghost use Rattle.chan_io.specs.Memory.{source_calls, source_faults};
 
     ghost left = { λ s. Some (bytes_left s) };
 
     ghost faults = { source_faults };
 
-    /// Fails exactly at the reads listed, and hands over as many bytes as are left, as a piece has and as the buffer
-    /// takes, whichever is least.
+    /// Fails exactly at the reads listed, and hands over as many bytes as are left, as a piece has
+    /// and as the buffer takes, whichever is least.
     fn read(&mut self, buf: &mut [u8]) -> Result<usize, Failed>
-        ensures bytes { Reads (Some (bytes_left self.old)) (Some (bytes_left self.new)) result buf.new }
+        ensures bytes { Reads (Some (bytes_left self.old))
+            (Some (bytes_left self.new)) result buf.new }
         ensures cause { HasCause (source_faults self.old) (source_faults self.new) result }
-        ensures listed { IsTrue (is_err result) ↔ Contains (source_fails self.old) (source_calls self.old) }
-        ensures count { IfOk result (λ n. n ≡ min (min (length (bytes_left self.old)) (source_piece self.old)) (length buf.old)) }
+        ensures listed { IsTrue (is_err result)
+            ↔ Contains (source_fails self.old) (source_calls self.old) }
+        ensures count { IfOk result
+            (λ n. n ≡ min (min (length (bytes_left self.old)) (source_piece self.old))
+            (length buf.old)) }
         ensures calls { source_calls self.new ≡ raised (source_calls self.old) }
         ensures faults { CountsFault (source_faults self.old) (source_faults self.new) result }
         ensures fails { source_fails self.new ≡ source_fails self.old }
@@ -89,8 +96,8 @@ pub struct MemSink {
 impl MemSink {
     ghost use Rattle.chan_io.specs.Memory.{bytes_taken, sink_fails, sink_calls, sink_faults};
 
-    /// A sink that has taken nothing. The writes whose numbers, counted from 0, are in `fails` fail. So does one that
-    /// finds no memory for its bytes.
+    /// A sink that has taken nothing. The writes whose numbers, counted from 0, are in `fails`
+    /// fail. So does one that finds no memory for its bytes.
     pub fn new(alloc: Global, fails: Vec<u64>) -> MemSink
         ensures taken { bytes_taken result ≡ [] }
         ensures fails { sink_fails result ≡ fails.items }
@@ -123,11 +130,14 @@ impl Sink for MemSink {
 
     ghost faults = { sink_faults };
 
-    /// Takes the whole piece. It fails at the writes listed, and elsewhere for want of memory alone.
+    /// Takes the whole piece. It fails at the writes listed, and elsewhere for want of memory
+    /// alone.
     fn write(&mut self, piece: &[u8]) -> Result<usize, Failed>
-        ensures bytes { Writes (Some (bytes_taken self.old)) (Some (bytes_taken self.new)) result piece.now }
+        ensures bytes { Writes (Some (bytes_taken self.old))
+            (Some (bytes_taken self.new)) result piece.now }
         ensures cause { HasCause (sink_faults self.old) (sink_faults self.new) result }
-        ensures listed { Contains (sink_fails self.old) (sink_calls self.old) → IsTrue (is_err result) }
+        ensures listed { Contains (sink_fails self.old) (sink_calls self.old)
+            → IsTrue (is_err result) }
         ensures count { IfOk result (λ n. n ≡ length piece.now) }
         ensures calls { sink_calls self.new ≡ raised (sink_calls self.old) }
         ensures faults { CountsFault (sink_faults self.old) (sink_faults self.new) result }

@@ -1,5 +1,5 @@
-//! Adapters over std's readers and writers, as the standard streams. They tell nothing of their bytes, and count their
-//! errors.
+//! Adapters over std's readers and writers, as the standard streams. They tell nothing of their
+//! bytes, and count their errors.
 
 ghost use Rattle.std.specs.Prelude.{◌≡◌, None};
 
@@ -39,7 +39,8 @@ impl<R: Read> Source for StdSource<R> {
     fn read(&mut self, buf: &mut [u8]) -> Result<usize, Failed>
         ensures bytes { Reads None None result buf.new }
         ensures cause { HasCause (reader_faults self.old) (reader_faults self.new) result }
-        ensures inner { ReadConsumes (R.remaining (inner_reader self.old)) (R.remaining (inner_reader self.new)) result buf.new }
+        ensures inner { ReadConsumes (R.remaining (inner_reader self.old))
+            (R.remaining (inner_reader self.new)) result buf.new }
         ensures faults { CountsFault (reader_faults self.old) (reader_faults self.new) result }
     {
         match self.inner.read(buf) {
@@ -81,12 +82,13 @@ impl<W: Write> Sink for StdSink<W> {
 
     ghost faults = { writer_faults };
 
-    /// One write of the writer. Each of its errors is a fault, and so is a write that takes nothing of a piece that is
-    /// not empty.
+    /// One write of the writer. Each of its errors is a fault, and so is a write that takes nothing
+    /// of a piece that is not empty.
     fn write(&mut self, piece: &[u8]) -> Result<usize, Failed>
         ensures bytes { Writes None None result piece.now }
         ensures cause { HasCause (writer_faults self.old) (writer_faults self.new) result }
-        ensures inner { WriteAppends (W.contents (inner_writer self.old)) (W.contents (inner_writer self.new)) result piece.now }
+        ensures inner { WriteAppends (W.contents (inner_writer self.old))
+            (W.contents (inner_writer self.new)) result piece.now }
         ensures faults { CountsFault (writer_faults self.old) (writer_faults self.new) result }
     {
         match self.inner.write(piece) {

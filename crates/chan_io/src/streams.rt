@@ -6,8 +6,8 @@ ghost use Rattle.chan_io.specs.Streams.{Reads, Writes};
 
 use thiserror::Error;
 
-/// A call of the outside failed, which raised its object's count of faults. What the object told of its bytes before
-/// the call it tells unchanged.
+/// A call of the outside failed, which raised its object's count of faults. What the object told of
+/// its bytes before the call it tells unchanged.
 #[derive(Clone, Copy, Debug, PartialEq, Eq, Error)]
 #[error("a call of the outside failed")]
 pub struct Failed;
@@ -20,9 +20,9 @@ pub trait Source {
     // How often a call failed. It never falls.
     ghost faults: { Self → ℕ };
 
-    /// Moves the next bytes to the front of the buffer, and answers how many. For a buffer that is not empty, 0 is the
-    /// end of the source. What stands in the buffer behind these bytes is not said, and nor is what a failed read
-    /// leaves in it.
+    /// Moves the next bytes to the front of the buffer, and answers how many. For a buffer that is
+    /// not empty, 0 is the end of the source. What stands in the buffer behind these bytes is not
+    /// said, and nor is what a failed read leaves in it.
     fn read(&mut self, buf: &mut [u8]) -> Result<usize, Failed>
         ensures bytes { Reads (left self.old) (left self.new) result buf.new }
         ensures cause { HasCause (faults self.old) (faults self.new) result };
@@ -36,7 +36,8 @@ pub trait Sink {
     // How often a call failed. It never falls.
     ghost faults: { Self → ℕ };
 
-    /// Takes bytes from the front of the piece, and answers how many: at least 1, unless the piece is empty.
+    /// Takes bytes from the front of the piece, and answers how many: at least 1, unless the piece
+    /// is empty.
     fn write(&mut self, piece: &[u8]) -> Result<usize, Failed>
         ensures bytes { Writes (taken self.old) (taken self.new) result piece.now }
         ensures cause { HasCause (faults self.old) (faults self.new) result };

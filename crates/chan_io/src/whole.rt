@@ -28,16 +28,20 @@ pub enum Unread {
 
 /// Reads a source to its end, and returns all of its bytes, at most `limit` of them.
 ///
-/// In every case at most `limit` + 1 bytes are read: `TooLong` comes exactly where that many were, and the
-/// bytes in hand are let go. `Failed` comes only where the source's count of faults rose in this call, at which at most
-/// `limit` bytes were read.
+/// In every case at most `limit` + 1 bytes are read: `TooLong` comes exactly where that many were,
+/// and the bytes in hand are let go. `Failed` comes only where the source's count of faults rose in
+/// this call, at which at most `limit` bytes were read.
 #[tactic(auto, using(crate::proofs::Told::steps))]
 pub fn read_whole<S: Source>(alloc: Global, source: &mut S, limit: usize) -> Result<Vec<u8>, Unread>
     ensures later { S.faults source.old ≤ S.faults source.new }
-    ensures whole { IfOk result (λ bytes. WholeRead (S.left source.old) (S.left source.new) limit bytes.items) }
-    ensures failed { IsErrOf result Unread.Failed → Rose (S.faults source.old) (S.faults source.new) }
-    ensures short { IsErrOf result Unread.Failed → BoundedRead (S.left source.old) (S.left source.new) limit }
-    ensures long { IsErrOf result Unread.TooLong → LongRead (S.left source.old) (S.left source.new) limit }
+    ensures whole { IfOk result
+        (λ bytes. WholeRead (S.left source.old) (S.left source.new) limit bytes.items) }
+    ensures failed { IsErrOf result Unread.Failed
+        → Rose (S.faults source.old) (S.faults source.new) }
+    ensures short { IsErrOf result Unread.Failed
+        → BoundedRead (S.left source.old) (S.left source.new) limit }
+    ensures long { IsErrOf result Unread.TooLong
+        → LongRead (S.left source.old) (S.left source.new) limit }
     ensures most { BoundedRead (S.left source.old) (S.left source.new) (limit + 1) }
 {
     let mut bytes = Vec::new(alloc);
@@ -59,7 +63,8 @@ pub fn read_whole<S: Source>(alloc: Global, source: &mut S, limit: usize) -> Res
 
 /// Gives a sink the whole text, in as many writes as the sink makes of it.
 ///
-/// After `Failed` the sink has taken a front of the text, and its count of faults rose in this call.
+/// After `Failed` the sink has taken a front of the text, and its count of faults rose in this
+/// call.
 #[tactic(auto, using(crate::proofs::Told::steps))]
 pub fn write_whole<K: Sink>(sink: &mut K, text: &[u8]) -> Result<(), Failed>
     ensures cause { HasCause (K.faults sink.old) (K.faults sink.new) result }

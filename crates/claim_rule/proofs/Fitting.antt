@@ -19,7 +19,8 @@ use Rattle.claim_rule.specs.Words.{stride, cell_word, entry_words}
 abbrev Few : ℕ → Type 0
 Few channels = (1 ≤ channels) × (channels ≤ MOST_CHANNELS)
 
-pub channels_few : (d : DeviceParts) (o : ℕ) → IsDevice d → o < length d.outputs → (1 ≤ channels_of_output d o) × (channels_of_output d o ≤ MOST_CHANNELS)
+pub channels_few : (d : DeviceParts) (o : ℕ) → IsDevice d → o < length d.outputs
+    → (1 ≤ channels_of_output d o) × (channels_of_output d o ≤ MOST_CHANNELS)
 channels_few d o device there =
     ⊎_elim
     (λ t.

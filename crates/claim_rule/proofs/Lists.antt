@@ -1,5 +1,6 @@
 -- Lists of entries, draws and states seen as a table goes on.
-use Rattle.std.proofs.Common.{◌≡◌, ℕ, ◌+◌, ◌<◌, ◌≤◌, cond, nat_le, List, [], ◌∷◌, ◌++◌, length, get_or, sym, ap, ◌∙◌, arith, append_assoc, length-append}
+use Rattle.std.proofs.Common.{◌≡◌, ℕ, ◌+◌, ◌<◌, ◌≤◌, cond, nat_le, List, [], ◌∷◌}
+use Rattle.std.proofs.Common.{◌++◌, length, get_or, sym, ap, ◌∙◌, arith, append_assoc, length-append}
 use Rattle.std.specs.List.{All}
 use Rattle.std.proofs.lemmas.Bool.Decides.{nat_tests}
 use Rattle.std.proofs.lemmas.List.{append-nil, get_or_append_left}
@@ -53,7 +54,8 @@ later_ticks : (plan : Plan) (drawn : ℕ) (new : List Entry) (number : ℕ) → 
     → All (λ e. e.at ≡ claims_at plan drawn) new → All (IsTimely plan) new → All (λ e. tick_of plan number < due e) new
 later_ticks plan drawn new number some below early ats timely i d lt =
     let at = ats i d lt in let t = timely i d lt in let e : Entry = get_or new i d in
-    let less : tick_of plan number < begin plan e.at = claim_before_first_tick plan.setup.device.base (outputs_of plan) (plan.from + number) e.at some (omega arith) in
+    let less : tick_of plan number < begin plan e.at =
+    claim_before_first_tick plan.setup.device.base (outputs_of plan) (plan.from + number) e.at some (omega arith) in
     omega arith
 
 pub good_published : (plan : Plan) (list new : List Entry) (drawn : ℕ) → 0 < outputs_of plan → All (λ e. e.at ≡ claims_at plan drawn) new

@@ -1,5 +1,6 @@
 -- The exchange keeps the rule: it publishes the entries, or finds that a number was drawn.
-use Rattle.std.proofs.Common.{◌≡◌, ◌≢◌, ℕ, ◌+◌, ◌^◌, ◌<◌, ◌==◌, Bool, true, false, List, ◌∷◌, ◌++◌, length, get_or, set, drop, refl, sym, ap, ◌∙◌, subst, arith, le_refl, length-append}
+use Rattle.std.proofs.Common.{◌≡◌, ◌≢◌, ℕ, ◌+◌, ◌^◌, ◌<◌, ◌==◌, Bool, true, false, List, ◌∷◌}
+use Rattle.std.proofs.Common.{◌++◌, length, get_or, set, drop, refl, sym, ap, ◌∙◌, subst, arith, le_refl, length-append}
 use Rattle.std.proofs.lemmas.Bool.Decides.{nat_tests}
 use Rattle.std.proofs.lemmas.List.{drop-append-le}
 use Rattle.std.proofs.lemmas.List.Elements.{All-append, All-weaker}
@@ -21,13 +22,15 @@ use Rattle.claim_rule.specs.Words.{state_word, Spells}
 use Rattle.claim_rule.specs.Views.{Begins, overs, times, saw, added}
 use Rattle.claim_rule.specs.Rule.{Shown, IsListed, IsGood, Writes, Fits, Holds, Kept}
 use Rattle.claim_rule.specs.Plays.{raw_of, count_of, IsLater, publishes, MayPublish}
-use Rattle.claim_rule.proofs.Totals.{same_total, seats_stay}
+use Rattle.list_laws.proofs.Items.{set_keeps}
+use Rattle.claim_rule.proofs.Totals.{same_total}
 use Rattle.claim_rule.proofs.Lists.{begins_same, begins_more, good_published, rises_append}
 use Rattle.claim_rule.proofs.Fitting.{some_output}
 use Rattle.claim_rule.proofs.Steps.{Table, Seat, head_raw, raw_is, unmoved, fits_on, later_here, seen_fits}
 
 -- the list with new entries of so many draws
-pub listed_more : (plan : Plan) (list new : List Entry) (drawn : ℕ) (v : View) → IsListed plan list drawn → v.entries ≡ list → MayPublish plan v new drawn
+pub listed_more : (plan : Plan) (list new : List Entry) (drawn : ℕ) (v : View) → IsListed plan list drawn → v.entries ≡ list
+    → MayPublish plan v new drawn
     → IsListed plan (list ++ new) drawn
 listed_more plan list new drawn v listed same may =
     let room = may.room in let given = listed.given in let long : length v.entries ≡ length list = ap length same in
@@ -66,9 +69,19 @@ module _ (plan : Plan) (s : Table) (x : Shown) (h : Holds plan s x) (id : ℕ) (
       let f : Fits plan x id v = h.seats id v at in
       let same : v.entries ++ new ≡ x.list ++ new = ap (λ (l : List Entry). l ++ new) mine.entries in
       let grown = length-append x.list new in
-      let g = fits_on plan x (with_more x new) id (record v { publishes = false }) (le_refl x.drawn) (omega arith) good_more (begins_more v.entries x.list new f.knows)
+      let g = fits_on plan x (with_more x new) id (record v { publishes = false }) (le_refl x.drawn) (omega arith) good_more
+      (begins_more v.entries x.list new f.knows)
       (λ bad. absurd cc)
-      (record { bound = f.bound; idle = f.idle; over = f.over; draws = f.draws; sights = f.sights; told = f.told; knows = f.knows; writes = λ bad. absurd cc }) in record {
+      (record {
+        bound = f.bound;
+        idle = f.idle;
+        over = f.over;
+        draws = f.draws;
+        sights = f.sights;
+        told = f.told;
+        knows = f.knows;
+        writes = λ bad. absurd cc;
+      }) in record {
         bound = f.bound;
         idle = f.idle;
         over = f.over;
@@ -82,12 +95,13 @@ module _ (plan : Plan) (s : Table) (x : Shown) (h : Holds plan s x) (id : ℕ) (
   published_holds : (cs : List (ℕ × List Entry)) → Holds plan (stepped s 0 next id cs (added v new) keeps) (with_more x new)
   published_holds cs =
       let w : View = added v new in
-      let word : next ≡ state_word (length (x.list ++ new)) x.drawn = let g = length-append x.list new in let l = ap length mine.entries in omega arith in record {
+      let word : next ≡ state_word (length (x.list ++ new)) x.drawn = let g = length-append x.list new in let l = ap length mine.entries in omega arith in
+      record {
         sound = h.sound;
         words = ap (λ (ws : List ℕ). set ws 0 next) h.words ∙ ap (λ (n : ℕ). n ∷ x.cells) word;
         spelt = subst (λ (z : List Entry × List ℕ). Spells z.1 (z.0 ++ new)) (λ k. (mine.entries k, mine.cells k)) may.spelt;
         listed = listed_more plan x.list new x.drawn v h.listed mine.entries may;
-        seats = seats_stay (Fits plan (with_more x new)) s.views id w published_mine published_else;
+        seats = set_keeps (Fits plan (with_more x new)) s.views id w published_mine published_else;
         parts = same_total (λ (u : View). u.parts) s.views id v w at refl ∙ h.parts;
         low = let t = same_total (overs plan) s.views id v w at refl in let l = h.low in omega arith;
         count = same_total (λ (u : View). length u.draws) s.views id v w at refl ∙ h.count;
@@ -129,7 +143,8 @@ module _ (start : Start) (slots id : ℕ) (me : Seat) (new : List Entry) (raw ol
       }
 
   tells : (s : Table) (cs : List (ℕ × List Entry)) (hit : Bool) (w : View)
-      → MatchBool hit (w ≡ added me.0 new) ((w ≡ saw me.0 (raw_of (get_or s.words 0 0)) (count_of (get_or s.words 0 0))) × IsLater me.0 (get_or s.words 0 0))
+      → MatchBool hit (w ≡ added me.0 new) ((w ≡ saw me.0 (raw_of (get_or s.words 0 0)) (count_of (get_or s.words 0 0)))
+      × IsLater me.0 (get_or s.words 0 0))
       → MatchBool hit (◌≡◌ {A = Seat} (w, cs) (added me.0 new, cs))
       (◌≡◌ {A = Seat} (w, cs) (saw me.0 (raw_of (get_or s.words 0 0)) (count_of (get_or s.words 0 0)), cs) × IsLater me.0 (get_or s.words 0 0))
   tells s cs true w t = ap (λ (v : View). (v, cs)) t

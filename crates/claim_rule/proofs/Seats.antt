@@ -1,5 +1,6 @@
 -- Views that are cut in two, and views that are joined, keep the rule.
-use Rattle.std.proofs.Common.{◌≡◌, ℕ, ◌+◌, ◌<◌, true, List, [], ◌∷◌, ◌++◌, length, set, refl, sym, ap, ◌∙◌, subst, ⊎_elim, arith, length-append}
+use Rattle.std.proofs.Common.{◌≡◌, ℕ, ◌+◌, ◌<◌, true, List, [], ◌∷◌, ◌++◌}
+use Rattle.std.proofs.Common.{length, set, refl, sym, ap, ◌∙◌, subst, ⊎_elim, arith, length-append}
 use Rattle.std.proofs.lemmas.List.{append-nil}
 use Rattle.std.proofs.lemmas.List.Elements.{All-nil, All-append}
 use Rattle.std.proofs.lemmas.List.Sums.{sum_by_push, sum_by-append}
@@ -16,7 +17,8 @@ use Rattle.claim_rule.specs.declared.view.Sight.{Sight}
 use Rattle.claim_rule.specs.Claims.{plan_of}
 use Rattle.claim_rule.specs.Views.{late, overs, is_at, times, IsSight, newcomer, without_part, worker, note, noted, taken_in, spent}
 use Rattle.claim_rule.specs.Rule.{Shown, IsGood, Fits, Holds, Kept}
-use Rattle.claim_rule.proofs.Totals.{total_set, same_total, seats_stay}
+use Rattle.list_laws.proofs.Items.{set_keeps}
+use Rattle.claim_rule.proofs.Totals.{total_set, same_total}
 use Rattle.claim_rule.proofs.Steps.{Table}
 
 -- a seat's changed view, where neither its plan nor what it publishes changes
@@ -59,7 +61,7 @@ module _ (plan : Plan) (s : Table) (x : Shown) (h : Holds plan s x) where
         listed = h.listed;
         seats = λ j u e.
             ⊎_elim
-            (seats_stay (Fits plan x) s.views id left lf (λ j u _ e. h.seats j u e) j u)
+            (set_keeps (Fits plan x) s.views id left lf (λ j u _ e. h.seats j u e) j u)
             (λ (t : right ≡ u). subst (Fits plan x j) t (rf j))
             (at_snoc vs right u j e);
         parts =
@@ -88,15 +90,16 @@ module _ (plan : Plan) (s : Table) (x : Shown) (h : Holds plan s x) where
         words = h.words;
         spelt = h.spelt;
         listed = h.listed;
-        seats = seats_stay (Fits plan x) vs other spent (spent_fits plan x other)
-            (λ j u _ e. seats_stay (Fits plan x) s.views id both bf (λ j u _ e. h.seats j u e) j u e);
+        seats = set_keeps (Fits plan x) vs other spent (spent_fits plan x other)
+            (λ j u _ e. set_keeps (Fits plan x) s.views id both bf (λ j u _ e. h.seats j u e) j u e);
         parts =
             let t = total_set (λ (u : View). u.parts) s.views id v both at in
             let p = total_set (λ (u : View). u.parts) vs other w spent there in let all = h.parts in omega arith;
         low =
             let t = total_set (overs plan) s.views id v both at in
             let p = total_set (overs plan) vs other w spent there in let l = h.low in
-            let e : overs plan both ≡ overs plan v + overs plan w = ap (sum_by (late plan)) draws ∙ sum_by-append (late plan) v.draws w.draws in omega arith;
+            let e : overs plan both ≡ overs plan v + overs plan w = ap (sum_by (late plan)) draws ∙ sum_by-append (late plan) v.draws w.draws in
+            omega arith;
         count =
             let t = total_set (λ (u : View). length u.draws) s.views id v both at in
             let p = total_set (λ (u : View). length u.draws) vs other w spent there in let c = h.count in
@@ -109,7 +112,8 @@ module _ (plan : Plan) (s : Table) (x : Shown) (h : Holds plan s x) where
       }
 
 -- the publisher makes a worker's pass
-pub hands_keeps : (start : Start) (id : ℕ) (v : View) → v.live ≡ true → 0 < v.parts → v.draws ≡ [] → Splits (Kept start) id v (without_part v) (worker v)
+pub hands_keeps : (start : Start) (id : ℕ) (v : View) → v.live ≡ true → 0 < v.parts → v.draws ≡ []
+    → Splits (Kept start) id v (without_part v) (worker v)
 hands_keeps start id v live some_part nil s kept at =
     let plan : Plan = plan_of start in let x : Shown = kept.0 in let h = kept.1 in
     let f : Fits plan x id v = h.seats id v at in

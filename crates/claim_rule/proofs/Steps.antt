@@ -1,5 +1,6 @@
 -- Draws, loads and stores keep the rule.
-use Rattle.std.proofs.Common.{◌≡◌, ◌≢◌, ℕ, suc, ◌+◌, ◌-◌, ◌*◌, ◌%◌, ◌^◌, ◌<◌, ◌≤◌, ◌==◌, cond, true, false, List, [], ◌∷◌, length, get_or, set, refl, sym, ap, ◌∙◌, subst, arith, le_refl, add-one}
+use Rattle.std.proofs.Common.{◌≡◌, ◌≢◌, ℕ, suc, ◌+◌, ◌-◌, ◌*◌, ◌%◌, ◌^◌, ◌<◌, ◌≤◌, ◌==◌, cond}
+use Rattle.std.proofs.Common.{true, false, List, [], ◌∷◌, length, get_or, set, refl, sym, ap, ◌∙◌, subst, arith, le_refl, add-one}
 use Rattle.std.proofs.lemmas.List.{append-nil, get_or-set_other, set-get_or, length_push}
 use Rattle.std.proofs.lemmas.List.Elements.{All-nil, All-push, All-weaker}
 use Rattle.std.proofs.lemmas.List.Sums.{sum_by_push}
@@ -19,13 +20,16 @@ use Rattle.claim_rule.specs.Words.{stride, state_word, entry_words, IsSpeltAt, S
 use Rattle.claim_rule.specs.Views.{Begins, draw, late, overs, is_at, times, sight, IsSight, drew, loaded, saw, wrote}
 use Rattle.claim_rule.specs.Rule.{Shown, IsGood, Writes, Fits, Holds, Kept}
 use Rattle.claim_rule.specs.Plays.{raw_of, count_of, IsFound, IsLater, draws, reads, sees, writes}
-use Rattle.claim_rule.proofs.Totals.{total_set, same_total, one_of, each_less, one_less, once_more, seats_stay}
+use Rattle.list_laws.proofs.Items.{set_keeps}
+use Rattle.claim_rule.proofs.Totals.{total_set, same_total, one_of, each_less, one_less, once_more}
 use Rattle.claim_rule.proofs.Lists.{begins_same, begins_at, begins_length, sights_more, late_most, late_counts, good_drawn, rises_more}
 use Rattle.claim_rule.proofs.Fitting.{entry_short}
 
+-- the table, with what each seat knows
 abbrev pub Table : Type 0
 Table = State (List Entry) View
 
+-- the seat that steps
 abbrev pub Seat : Type 0
 Seat = Me (List Entry) View
 
@@ -61,14 +65,15 @@ module _ (plan : Plan) (s : Table) (x : Shown) (h : Holds plan s x) where
   count_is = ap count_of head_is ∙ head_count (length x.list) x.drawn few_drawn
 
   -- a step that changes no word, and neither parts nor draws of its seat
-  pub unmoved : (i id : ℕ) (cs : List (ℕ × List Entry)) (v w : View) → get_elem? s.views id ≡ some v → Fits plan x id w → w.parts ≡ v.parts → w.draws ≡ v.draws
+  pub unmoved : (i id : ℕ) (cs : List (ℕ × List Entry)) (v w : View) → get_elem? s.views id ≡ some v → Fits plan x id w → w.parts ≡ v.parts
+      → w.draws ≡ v.draws
       → Holds plan (stepped s i (get_or s.words i 0) id cs w keeps) x
   unmoved i id cs v w at fits parts same = record {
     sound = h.sound;
     words = set-get_or s.words i 0 ∙ h.words;
     spelt = h.spelt;
     listed = h.listed;
-    seats = seats_stay (Fits plan x) s.views id w fits (λ j u _ e. h.seats j u e);
+    seats = set_keeps (Fits plan x) s.views id w fits (λ j u _ e. h.seats j u e);
     parts = same_total (λ (u : View). u.parts) s.views id v w at parts ∙ h.parts;
     low = let t = same_total (overs plan) s.views id v w at (ap (sum_by (late plan)) same) in let l = h.low in omega arith;
     count = same_total (λ (u : View). length u.draws) s.views id v w at (ap length same) ∙ h.count;
@@ -77,7 +82,8 @@ module _ (plan : Plan) (s : Table) (x : Shown) (h : Holds plan s x) where
 
 -- a seat knows no less of a table that has gone on
 pub fits_on : (plan : Plan) (x y : Shown) (seat : ℕ) (v : View) → x.drawn ≤ y.drawn → length x.list ≤ length y.list
-    → ((d : Draw) → IsGood plan x.list x.drawn d → IsGood plan y.list y.drawn d) → Begins v.entries y.list → (v.publishes ≡ true → Writes y seat v)
+    → ((d : Draw) → IsGood plan x.list x.drawn d → IsGood plan y.list y.drawn d) → Begins v.entries y.list
+    → (v.publishes ≡ true → Writes y seat v)
     → Fits plan x seat v → Fits plan y seat v
 fits_on plan x y seat v drawn long good knows writes f = record {
   bound = f.bound;
@@ -147,7 +153,8 @@ drawn_mine plan x id v quiet part early f =
       writes = λ loud. absurd cc;
     }
 
-module _ (plan : Plan) (s : Table) (x : Shown) (h : Holds plan s x) (id : ℕ) (v : View) (at : get_elem? s.views id ≡ some v) (quiet : v.publishes ≡ false)
+module _ (plan : Plan) (s : Table) (x : Shown) (h : Holds plan s x) (id : ℕ) (v : View) (at : get_elem? s.views id ≡ some v)
+    (quiet : v.publishes ≡ false)
     (part : 0 < v.parts) (early : overs plan v ≡ 0) where
   -- there is a seat that may still draw past the packets
   small : x.drawn + 1 < 2 ^ 32
@@ -158,13 +165,16 @@ module _ (plan : Plan) (s : Table) (x : Shown) (h : Holds plan s x) (id : ℕ) (
   next_word : (get_or s.words 0 0 + 1) % 2 ^ 64 ≡ state_word (length x.list) (x.drawn + 1)
   next_word = let is = head_is plan s x h in let room = h.listed.room in let f = small in omega arith
 
-  drawn_holds : (cs : List (ℕ × List Entry)) → Holds plan (stepped s 0 ((get_or s.words 0 0 + 1) % 2 ^ 64) id cs (drew v x.drawn x.list) keeps) (record x { drawn = x.drawn + 1 })
+  drawn_holds : (cs : List (ℕ × List Entry)) → Holds plan (stepped s 0 ((get_or s.words 0 0 + 1) % 2 ^ 64) id cs (drew v x.drawn x.list) keeps)
+      (record x { drawn = x.drawn + 1 })
   drawn_holds cs =
       let w : View = drew v x.drawn x.list in let d : Draw = draw x.drawn x.list in let y : Shown = record x { drawn = x.drawn + 1 } in
       let l = h.low in
       let grown : overs plan w ≡ overs plan v + late plan d = sum_by_push (late plan) v.draws d in
-      let t : sum_by (overs plan) (set s.views id w) + overs plan v ≡ sum_by (overs plan) s.views + overs plan w = total_set (overs plan) s.views id v w at in
-      let counts : x.drawn + 1 ≤ plan.packets + (sum_by (overs plan) s.views + late plan d) = late_counts plan.packets x.drawn (sum_by (overs plan) s.views) l in record {
+      let t : sum_by (overs plan) (set s.views id w) + overs plan v ≡ sum_by (overs plan) s.views + overs plan w =
+      total_set (overs plan) s.views id v w at in
+      let counts : x.drawn + 1 ≤ plan.packets + (sum_by (overs plan) s.views + late plan d) =
+      late_counts plan.packets x.drawn (sum_by (overs plan) s.views) l in record {
         sound = h.sound;
         words = ap (λ (ws : List ℕ). set ws 0 ((get_or s.words 0 0 + 1) % 2 ^ 64)) h.words ∙ ap (λ (n : ℕ). n ∷ x.cells) next_word;
         spelt = h.spelt;
@@ -176,7 +186,8 @@ module _ (plan : Plan) (s : Table) (x : Shown) (h : Holds plan s x) (id : ℕ) (
           rises = rises_more 0 (claims_at plan x.drawn) (claims_at plan (x.drawn + 1)) x.list (omega arith) h.listed.rises;
           timely = h.listed.timely;
         };
-        seats = seats_stay (Fits plan y) s.views id w (drawn_mine plan x id v quiet part early (h.seats id v at)) (λ j u _ e. drawn_else plan x j u (h.seats j u e));
+        seats = set_keeps (Fits plan y) s.views id w (drawn_mine plan x id v quiet part early (h.seats id v at))
+            (λ j u _ e. drawn_else plan x j u (h.seats j u e));
         parts = same_total (λ (u : View). u.parts) s.views id v w at refl ∙ h.parts;
         low = omega arith;
         count =
@@ -189,7 +200,8 @@ module _ (plan : Plan) (s : Table) (x : Shown) (h : Holds plan s x) (id : ℕ) (
             let o = h.once number in let m = once_more number x.drawn in omega arith;
       }
 
-pub draws_keeps : (start : Start) (slots id : ℕ) (me : Seat) → me.0.live ≡ true → me.0.publishes ≡ false → 0 < me.0.parts → overs me.0.plan me.0 ≡ 0
+pub draws_keeps : (start : Start) (slots id : ℕ) (me : Seat) → me.0.live ≡ true → me.0.publishes ≡ false → 0 < me.0.parts
+    → overs me.0.plan me.0 ≡ 0
     → Allows (Kept start) slots id me 0 (λ n. (n + 1) % 2 ^ 64) (draws (step slots 0 1 0 none) me)
 draws_keeps start slots id me live quiet part early_there s kept _ at _ =
     let plan : Plan = plan_of start in let x : Shown = kept.0 in let h = kept.1 in
@@ -252,14 +264,16 @@ sees_keeps start slots id me s kept _ at _ =
 -- ---- the publisher stores a word
 
 -- a word behind the entries spells none of them
-spelt_else : (plan : Plan) (list : List Entry) (cells : List ℕ) (p word : ℕ) → IsSound plan → All (IsFit plan) list → length list * stride ≤ p → Spells cells list
+spelt_else : (plan : Plan) (list : List Entry) (cells : List ℕ) (p word : ℕ) → IsSound plan → All (IsFit plan) list → length list * stride ≤ p
+    → Spells cells list
     → Spells (set cells p word) list
 spelt_else plan list cells p word sound fits past spelt i d lt k short =
     let e : Entry = get_or list i d in
     let row : length (entry_words e) ≤ stride = entry_short plan e sound (fits i d lt) in
     get_or-set_other cells p (i * stride + k) word 0 (λ same. omega arith) ∙ spelt i d lt k short
 
-pub writes_keeps : (start : Start) (slots id : ℕ) (me : Seat) (i p word : ℕ) → i ≡ p + 1 → me.0.publishes ≡ true → length me.0.entries * stride ≤ p
+pub writes_keeps : (start : Start) (slots id : ℕ) (me : Seat) (i p word : ℕ) → i ≡ p + 1 → me.0.publishes ≡ true
+    → length me.0.entries * stride ≤ p
     → Allows (Kept start) slots id me i (λ _. word) (λ _. writes (step slots i word 0 none) me word)
 writes_keeps start slots id me i p word place loud past s kept _ at _ =
     let plan : Plan = plan_of start in let x : Shown = kept.0 in let h = kept.1 in
@@ -285,7 +299,7 @@ writes_keeps start slots id me i p word place loud past s kept _ at _ =
       words = (λ k. set (h.words k) (up k) word);
       spelt = spelt_else plan x.list x.cells p word h.sound h.listed.fits behind h.spelt;
       listed = h.listed;
-      seats = seats_stay (Fits plan y) s.views id w fits others;
+      seats = set_keeps (Fits plan y) s.views id w fits others;
       parts = same_total (λ (u : View). u.parts) s.views id me.0 w at refl ∙ h.parts;
       low = let t = same_total (overs plan) s.views id me.0 w at refl in let l = h.low in omega arith;
       count = same_total (λ (u : View). length u.draws) s.views id me.0 w at refl ∙ h.count;

@@ -1,12 +1,12 @@
 -- Sums over views of which one changes, or which grow by one.
-use Rattle.std.proofs.Common.{◌≡◌, ◌≢◌, ℕ, zero, suc, ◌+◌, ◌<◌, ◌≤◌, ◌==◌, cond, List, [], ◌∷◌, length, get_or, set, refl, sym, ap, ◌∙◌, subst, ⊎_elim, arith}
+use Rattle.std.proofs.Common.{◌≡◌, ◌≢◌, ℕ, zero, suc, ◌+◌, ◌<◌, ◌≤◌, ◌==◌, cond, List}
+use Rattle.std.proofs.Common.{[], ◌∷◌, length, get_or, set, refl, sym, ap, ◌∙◌, subst, arith}
 use Rattle.std.proofs.lemmas.Bool.Decides.{nat_tests}
 use Rattle.std.proofs.lemmas.List.Sums.{sum_by-set, sum_by-cons}
 use Rattle.std.specs.List.{sum_by}
 use mathlib.Core.Option.{some, some-injective, some-ne-none}
 use lib.ListN.{get_elem?}
-use Rattle.atomic_table.proofs.Lists.{at_set, set_else}
-use Rattle.claim_rule.specs.declared.view.View.{View}
+use Rattle.atomic_table.proofs.Lists.{set_else}
 use Rattle.claim_rule.specs.Views.{once_below}
 
 index_of : {A : Type 0} (l : List A) (i : ℕ) (a d : A) → get_elem? l i ≡ some a → (i < length l) × (get_or l i d ≡ a)
@@ -20,7 +20,8 @@ total_set {A} f l i v w at =
     let h = index_of l i v v at in
     subst (λ (z : A). sum_by f (set l i w) + f z ≡ sum_by f l + f w) h.1 (sum_by-set f l i w v h.0)
 
-pub same_total : {A : Type 0} (f : A → ℕ) (l : List A) (i : ℕ) (v w : A) → get_elem? l i ≡ some v → f w ≡ f v → sum_by f (set l i w) ≡ sum_by f l
+pub same_total : {A : Type 0} (f : A → ℕ) (l : List A) (i : ℕ) (v w : A) → get_elem? l i ≡ some v → f w ≡ f v
+    → sum_by f (set l i w) ≡ sum_by f l
 same_total f l i v w at same = let t = total_set f l i v w at in omega arith
 
 -- one of the terms
@@ -68,7 +69,8 @@ alone f (x ∷ xs) (suc i) v e h =
     let r : sum_by f xs ≡ f v = alone f xs i v e (λ j u n t. h (suc j) u (λ same. n (omega arith)) t) in omega arith
 
 -- two of the terms
-pub two_of : {A : Type 0} (f : A → ℕ) (l : List A) (i j : ℕ) (v u w : A) → f w ≡ 0 → get_elem? l i ≡ some v → get_elem? l j ≡ some u → j ≢ i
+pub two_of : {A : Type 0} (f : A → ℕ) (l : List A) (i j : ℕ) (v u w : A) → f w ≡ 0 → get_elem? l i ≡ some v → get_elem? l j ≡ some u
+    → j ≢ i
     → f u + f v ≤ sum_by f l
 two_of f l i j v u w none at there apart =
     let t = total_set f l i v w at in
@@ -77,12 +79,3 @@ two_of f l i j v u w none at there apart =
 -- one number more
 pub once_more : (x n : ℕ) → once_below x n + cond (n == x) 1 0 ≡ once_below x (n + 1)
 once_more x n = grind (arith, nat_tests)
-
--- what holds of one seat's new view, and of the others', holds of all
-pub seats_stay : (K : ℕ → View → Type 0) (vs : List View) (me : ℕ) (w : View) → K me w → ((j : ℕ) (u : View) → j ≢ me → get_elem? vs j ≡ some u → K j u)
-    → (j : ℕ) (u : View) → get_elem? (set vs me w) j ≡ some u → K j u
-seats_stay K vs me w mine others j u e =
-    ⊎_elim
-    (λ (t : (j ≡ me) × (w ≡ u)). subst (λ (x : ℕ × View). K x.0 x.1) (λ i. (sym t.0 i, t.1 i)) mine)
-    (λ (t : (j ≢ me) × (get_elem? vs j ≡ some u)). others j u t.0 t.1)
-    (at_set vs me j w u e)

@@ -1,5 +1,5 @@
--- What a table is for, and the claims that are made on it: the number drawn from 0 on, and the claim of the whole session.
--- (This project's own.)
+-- What a table is for, and the claims that are made on it: the number drawn from 0 on, and the
+-- claim of the whole session. (This project's own.)
 use Rattle.std.specs.Prelude.{ℕ, ◌+◌, ◌^◌, ◌<◌, ◌≤◌, length, min}
 use Rattle.map_entry.specs.declared.claims.TheConstants.{CLAIMS_LIMIT}
 use Rattle.map_entry.specs.declared.entry.Entry.{Entry}

@@ -13,11 +13,15 @@ use Rattle.claim_rule.specs.Rule.{IsListed, IsGood}
 -- what the whole list selects for a draw's tick is what the entries found select
 abbrev pub StaysSelected : Plan → List Entry → Draw → Type 0
 StaysSelected plan list d =
-    d.number < plan.packets → (output : ℕ) → selected list output (tick_of plan d.number) ≡ selected d.found output (tick_of plan d.number)
+    d.number < plan.packets → (output : ℕ)
+    → selected list output (tick_of plan d.number)
+    ≡ selected d.found output (tick_of plan d.number)
 
--- All entries, all draws and what was seen, once every pass is back: each number below those drawn was drawn once, and no other; the
--- entries behind those that a draw found count from later ticks, so they change no row of it; and no state seen was beyond.
-pub record Ends (plan : Plan) (list : List Entry) (draws : List Draw) (seen : List Sight) : Type 0 where
+-- All entries, all draws and what was seen, once every pass is back: each number below those drawn
+-- was drawn once, and no other; the entries behind those that a draw found count from later ticks,
+-- so they change no row of it; and no state seen was beyond.
+pub record Ends (plan : Plan) (list : List Entry) (draws : List Draw)
+    (seen : List Sight) : Type 0 where
   pub drawn : ℕ
   pub most : drawn ≤ plan.packets + plan.workers
   pub listed : IsListed plan list drawn

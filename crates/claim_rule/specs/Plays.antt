@@ -1,5 +1,6 @@
 -- What each kind of step tells its seat, and what it asks. (This project's own.)
-use Rattle.std.specs.Prelude.{◌≡◌, ℕ, ◌+◌, ◌-◌, ◌*◌, ◌/◌, ◌%◌, ◌^◌, ◌<◌, ◌≤◌, ◌==◌, true, List, [], ◌++◌, length, slice_index, slice_index_or, MatchBool}
+use Rattle.std.specs.Prelude.{◌≡◌, ℕ, ◌+◌, ◌-◌, ◌*◌, ◌/◌, ◌%◌, ◌^◌, ◌<◌, ◌≤◌, ◌==◌, true}
+use Rattle.std.specs.Prelude.{List, [], ◌++◌, length, slice_index, slice_index_or, MatchBool}
 use Rattle.std.specs.List.{All}
 use mathlib.Core.Option.{Option, none, some}
 use Rattle.atomic_table.specs.Table.{Me, Step}
@@ -30,8 +31,8 @@ pub record IsFound (plan : Plan) (list : List Entry) (word : ℕ) : Type 0 where
   pub fits : All (IsFit plan) list
   pub covers : HasRowsFrom plan.setup.device list (tick_of plan 0)
 
--- A draw tells the number and the entries published, which begin with those that the draw before found. The seat has room in its
--- list of claims for as many as were drawn before.
+-- A draw tells the number and the entries published, which begin with those that the draw before
+-- found. The seat has room in its list of claims for as many as were drawn before.
 abbrev pub draws : Step (List Entry) → Knows → ℕ → Knows → Type 0
 draws st me word after =
     (found : List Entry) × (after ≡ (drew me.0 (raw_of word) found, me.1))
@@ -41,11 +42,13 @@ draws st me word after =
 abbrev pub reads : Step (List Entry) → Knows → ℕ → Knows → Type 0
 reads st me word after =
     (after ≡ (loaded me.0, me.1))
-    × ((i k : ℕ) (d : Entry) → st.word ≡ (i * stride + k) + 1 → i < length me.0.entries → k < length (entry_words (slice_index_or me.0.entries i d))
+    × ((i k : ℕ) (d : Entry) → st.word ≡ (i * stride + k) + 1 → i < length me.0.entries
+    → k < length (entry_words (slice_index_or me.0.entries i d))
     → word ≡ slice_index (entry_words (slice_index_or me.0.entries i d)) k)
 
--- The state is not below those that were seen, nor those of which the seat was told. The publisher finds as many entries as it has
--- published, and there are at most so many draws as packets and workers.
+-- The state is not below those that were seen, nor those of which the seat was told. The publisher
+-- finds as many entries as it has published, and there are at most so many draws as packets and
+-- workers.
 pub record IsLater (v : View) (word : ℕ) : Type 0 where
   pub sights : All (IsSight (count_of word) (raw_of word)) v.sights
   pub told : All (IsSight (count_of word) (raw_of word)) v.told
@@ -65,15 +68,16 @@ abbrev pub said_of : Option (List Entry) → List Entry
 said_of none = []
 said_of (some entries) = entries
 
--- an exchange tells that the entries announced are published, where it found the word expected; or else the state
+-- an exchange tells that the entries announced are published, where it found the word expected; or
+-- else the state
 abbrev pub publishes : Step (List Entry) → Knows → ℕ → Knows → Type 0
 publishes st me word after =
     MatchBool (word == st.first)
     (after ≡ (added me.0 (said_of st.said), me.1))
     ((after ≡ (saw me.0 (raw_of word) (count_of word), me.1)) × IsLater me.0 word)
 
--- What the publisher owes where it publishes: words that spell the new entries behind the others, which have room and fit the plan; the
--- claims at so many draws; and ticks that haven't begun then.
+-- What the publisher owes where it publishes: words that spell the new entries behind the others,
+-- which have room and fit the plan; the claims at so many draws; and ticks that haven't begun then.
 pub record MayPublish (plan : Plan) (v : View) (new : List Entry) (raw : ℕ) : Type 0 where
   pub spelt : Spells v.cells (v.entries ++ new)
   pub room : length v.entries + length new ≤ places

@@ -1,5 +1,6 @@
--- The rule of the claim table, which holds between any two steps. Word 0 shows how many numbers were drawn and how many entries
--- are published; the words of the entries' places spell these. (This project's own.)
+-- The rule of the claim table, which holds between any two steps. Word 0 shows how many numbers
+-- were drawn and how many entries are published; the words of the entries' places spell these.
+-- (This project's own.)
 use Rattle.std.specs.Prelude.{◌≡◌, ℕ, ◌+◌, ◌<◌, ◌≤◌, true, List, [], ◌∷◌, ◌++◌, length, drop}
 use Rattle.std.specs.List.{All, sum_by}
 use mathlib.Core.Option.{some}
@@ -15,20 +16,23 @@ use Rattle.claim_rule.specs.Claims.{plan_of, tick_of, claims_at, IsSound, IsFit,
 use Rattle.claim_rule.specs.Words.{places, state_word, Spells}
 use Rattle.claim_rule.specs.Views.{Begins, overs, times, once_below, IsSight}
 
--- what a table shows: the entries published, how many numbers were drawn, the seat that publishes, and the words of the places
+-- what a table shows: the entries published, how many numbers were drawn, the seat that publishes,
+-- and the words of the places
 pub record Shown : Type 0 where
   pub list : List Entry
   pub drawn : ℕ
   pub keeper : ℕ
   pub cells : List ℕ
 
--- the claims at the entries' publication never fall along the list, from `low` on, and end at `high` at most
+-- the claims at the entries' publication never fall along the list, from `low` on, and end at
+-- `high` at most
 abbrev pub Rises : ℕ → List Entry → ℕ → Type 0
 Rises low [] high = low ≤ high
 Rises low (e ∷ es) high = (low ≤ e.at) × Rises e.at es high
 
--- The list of entries at so many draws. It begins with those given; each output has a row from the table's first tick on; and an
--- entry that was published here counts from no tick that had begun then.
+-- The list of entries at so many draws. It begins with those given; each output has a row from the
+-- table's first tick on; and an entry that was published here counts from no tick that had begun
+-- then.
 pub record IsListed (plan : Plan) (list : List Entry) (drawn : ℕ) : Type 0 where
   pub room : length list ≤ places
   pub given : plan.given ≤ length list
@@ -37,7 +41,8 @@ pub record IsListed (plan : Plan) (list : List Entry) (drawn : ℕ) : Type 0 whe
   pub rises : Rises 0 list (claims_at plan drawn)
   pub timely : All (IsTimely plan) (drop plan.given list)
 
--- Behind the entries that a draw found, those published since count from ticks behind that of the draw alone.
+-- Behind the entries that a draw found, those published since count from ticks behind that of the
+-- draw alone.
 pub record IsGood (plan : Plan) (list : List Entry) (drawn : ℕ) (d : Draw) : Type 0 where
   pub below : d.number < drawn
   pub rest : List Entry
@@ -61,8 +66,8 @@ pub record Fits (plan : Plan) (x : Shown) (seat : ℕ) (v : View) : Type 0 where
   pub knows : Begins v.entries x.list
   pub writes : v.publishes ≡ true → Writes x seat v
 
--- What the words and views of a table show. Each number below those drawn stands in just one view, and each view has at most as many
--- draws past the packets as it has parts.
+-- What the words and views of a table show. Each number below those drawn stands in just one view,
+-- and each view has at most as many draws past the packets as it has parts.
 pub record Holds (plan : Plan) (s : State (List Entry) View) (x : Shown) : Type 0 where
   pub sound : IsSound plan
   pub words : s.words ≡ state_word (length x.list) x.drawn ∷ x.cells

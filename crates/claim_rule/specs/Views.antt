@@ -1,5 +1,7 @@
--- What those know who step on a table, and how their views change, are cut and are joined. (This project's own.)
-use Rattle.std.specs.Prelude.{◌≡◌, ℕ, ◌+◌, ◌-◌, ◌≤◌, true, false, List, [], ◌∷◌, ◌++◌, cond, nat_le, ◌==◌, drop, slice_set}
+-- What those know who step on a table, and how their views change, are cut and are joined. (This
+-- project's own.)
+use Rattle.std.specs.Prelude.{◌≡◌, ℕ, ◌+◌, ◌-◌, ◌≤◌, true, false, List, []}
+use Rattle.std.specs.Prelude.{◌∷◌, ◌++◌, cond, nat_le, ◌==◌, drop, slice_set}
 use Rattle.std.specs.List.{sum_by}
 use Rattle.map_entry.specs.declared.entry.Entry.{Entry}
 use Rattle.map_entry.specs.Setup.{SetupParts}
@@ -46,7 +48,8 @@ once_below number bound = cond (nat_le bound number) 0 1
 abbrev pub sight : ℕ → ℕ → Sight
 sight raw count = record { raw = raw; count = count }
 
--- a table on which so many entries are published and so many numbers drawn has come as far as the state seen
+-- a table on which so many entries are published and so many numbers drawn has come as far as the
+-- state seen
 pub record IsSight (count drawn : ℕ) (s : Sight) : Type 0 where
   pub raw : s.raw ≤ drawn
   pub entries : s.count ≤ count
@@ -103,7 +106,8 @@ noted v w = record v { told = v.told ++ (w.sights ++ w.told) }
 abbrev pub taken_in : View → View → View
 taken_in v w = record v { parts = v.parts + w.parts; draws = v.draws ++ w.draws }
 
--- the view after a draw, after a load of an entry's word, after a look at the state, after a store, after a publication
+-- the view after a draw, after a load of an entry's word, after a look at the state, after a store,
+-- after a publication
 abbrev pub drew : View → ℕ → List Entry → View
 drew v number found = record v { draws = v.draws ++ draw number found ∷ []; entries = found }
 
@@ -126,7 +130,13 @@ added v new = record v { entries = v.entries ++ new }
 -- what is left of a view that was taken in: it is of no table
 abbrev pub no_setup : SetupParts
 no_setup = record {
-  device = record { rate = record { hz = 0; frames = 0 }; base = 0; hold = 0; inputs = []; outputs = [] };
+  device = record {
+    rate = record { hz = 0; frames = 0 };
+    base = 0;
+    hold = 0;
+    inputs = [];
+    outputs = [];
+  };
   rows = [];
 }
 

@@ -1,5 +1,6 @@
 -- How a table spells its entries, by words of 64 bits. (This project's own.)
-use Rattle.std.specs.Prelude.{◌≡◌, ℕ, ◌+◌, ◌*◌, ◌^◌, ◌<◌, List, ◌∷◌, map, length, slice_index, slice_index_or}
+use Rattle.std.specs.Prelude.{◌≡◌, ℕ, ◌+◌, ◌*◌, ◌^◌, ◌<◌, List, ◌∷◌}
+use Rattle.std.specs.Prelude.{map, length, slice_index, slice_index_or}
 use Rattle.io_caps.specs.declared.limits.TheConstants.{MOST_CHANNELS, PLACES}
 use Rattle.map_entry.specs.declared.cell.Cell.{Cell}
 use Rattle.map_entry.specs.declared.cell.Cell.TheVariants.{Unrouted, From}
@@ -9,7 +10,8 @@ use Rattle.map_entry.specs.declared.entry.Entry.{Entry}
 abbrev pub places : ℕ
 places = PLACES
 
--- how many words stand in front of an entry's cells, and how many an entry takes, however few channels its output has
+-- how many words stand in front of an entry's cells, and how many an entry takes, however few
+-- channels its output has
 abbrev pub head_words : ℕ
 head_words = 2
 
@@ -26,14 +28,17 @@ abbrev pub cell_word : Cell → ℕ
 cell_word Unrouted = 0
 cell_word (From input channel) = (input * 2 ^ 8 + channel) + 1
 
--- an entry: its tick above 6 bits of its output, the claims at its publication above 8 bits that are left free, and its cells
+-- an entry: its tick above 6 bits of its output, the claims at its publication above 8 bits that
+-- are left free, and its cells
 abbrev pub entry_words : Entry → List ℕ
 entry_words e = (e.tick * 2 ^ 6 + e.output) ∷ (e.at * 2 ^ 8) ∷ map cell_word e.row
 
 -- the words of the place i spell the entry
 abbrev pub IsSpeltAt : List ℕ → ℕ → Entry → Type 0
-IsSpeltAt cells i e = (k : ℕ) → k < length (entry_words e) → slice_index cells (i * stride + k) ≡ slice_index (entry_words e) k
+IsSpeltAt cells i e = (k : ℕ) → k < length (entry_words e)
+    → slice_index cells (i * stride + k) ≡ slice_index (entry_words e) k
 
 -- the words spell the entries, place by place
 abbrev pub Spells : List ℕ → List Entry → Type 0
-Spells cells list = (i : ℕ) (d : Entry) → i < length list → IsSpeltAt cells i (slice_index_or list i d)
+Spells cells list = (i : ℕ) (d : Entry) → i < length list
+    → IsSpeltAt cells i (slice_index_or list i d)

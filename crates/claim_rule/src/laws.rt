@@ -1,6 +1,8 @@
 //! Laws of the rule, each the contract of a function that does nothing.
 
-ghost use Rattle.claim_rule.specs.Laws.{OpeningHolds, DrawKeeps, ReadKeeps, LookKeeps, StoreKeeps, ExchangeKeeps, PassKeeps, NoteKeeps, NoteInKeeps, PassInKeeps, EndKnown, RowsStay};
+ghost use Rattle.claim_rule.specs.Laws.{OpeningHolds, DrawKeeps, ReadKeeps, LookKeeps};
+ghost use Rattle.claim_rule.specs.Laws.{StoreKeeps, ExchangeKeeps, PassKeeps, NoteKeeps};
+ghost use Rattle.claim_rule.specs.Laws.{NoteInKeeps, PassInKeeps, EndKnown, RowsStay};
 
 /// A table may begin with entries that its words spell.
 pub fn opening_holds()
@@ -12,7 +14,8 @@ pub fn draw_keeps()
     ensures { DrawKeeps }
 {}
 
-/// A load of an entry's word keeps the rule. It tells that it is the word of an entry that the seat knows.
+/// A load of an entry's word keeps the rule. It tells that it is the word of an entry that the seat
+/// knows.
 pub fn read_keeps()
     ensures { ReadKeeps }
 {}

@@ -1,5 +1,5 @@
-//! The rule of the claim table, on whose word 0 workers claim packets and a publisher publishes entries, and the views
-//! of those who step on it. All of it is for proofs: no code runs here.
+//! The rule of the claim table, on whose word 0 workers claim packets and a publisher publishes
+//! entries, and the views of those who step on it. All of it is for proofs: no code runs here.
 #![tactic(auto)]
 
 pub mod laws;

@@ -17,7 +17,8 @@ pub struct Plan {
     pub given: u64,
 }
 
-/// How a table begins: what it is for, the entries with which it begins, and the words that spell them.
+/// How a table begins: what it is for, the entries with which it begins, and the words that spell
+/// them.
 #[derive(Drop)]
 pub struct Start {
     pub setup: Snapshot<Setup>,

@@ -53,7 +53,8 @@ impl Play<Entries, View> for Writes {
     ghost then = { writes };
 }
 
-/// The publisher exchanges word 0, which publishes the entries that the step announces, or finds that a number was drawn.
+/// The publisher exchanges word 0, which publishes the entries that the step announces, or finds
+/// that a number was drawn.
 pub struct Publishes;
 
 impl Play<Entries, View> for Publishes {

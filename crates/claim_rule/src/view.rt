@@ -21,11 +21,13 @@ pub struct View {
     /// False once another seat has taken it in.
     pub live: bool,
     pub plan: Plan,
-    /// Its parts of the right to know all draws: one of a worker's pass, what is left of a publisher's.
+    /// Its parts of the right to know all draws: one of a worker's pass, what is left of a
+    /// publisher's.
     pub parts: u64,
     /// What it drew, in order.
     pub draws: LinkedList<Draw>,
-    /// Entries that stand in front of all others: those that its last draw found, of the publisher all.
+    /// Entries that stand in front of all others: those that its last draw found, of the publisher
+    /// all.
     pub entries: LinkedList<Entry>,
     /// How often it has loaded a word of an entry.
     pub loads: u64,

@@ -12,9 +12,11 @@
 --
 -- A text or a list is as long as a number before it says: there `text_then` takes `λ x k. k.1`, which says so. An enum
 -- is `tagged`, and for each tag a `tag_choice` with `Exact-value` or `Exact-as`, and `Exact-none` at the end.
-use Rattle.std.proofs.Common.{◌≡◌, ℕ, suc, ◌+◌, ◌<◌, Bool, true, false, cond, eqb, List, [], ◌∷◌, ◌++◌, get_or, take, drop, Option, Some, None, refl, sym, ap, subst, ◌∙◌, append_assoc, arith, inl, inr, ◌⊎◌}
-use Rattle.std.proofs.lemmas.Bool.{cases_lt, eqb-true, eqb-false}
-use Rattle.std.proofs.lemmas.List.{length-take, get_or-drop, get_or-take, get_or_past}
+use Rattle.std.proofs.Common.{◌≡◌, ℕ, suc, ◌<◌, Bool, true, false, cond, eqb, List, [], ◌∷◌, ◌++◌, get_or}
+use Rattle.std.proofs.Common.{take, drop, Option, Some, None, refl, sym, ap, subst, ◌∙◌, append_assoc, arith, inl, inr, ◌⊎◌}
+use Rattle.std.proofs.lemmas.Bool.{eqb-true, eqb-false}
+use Rattle.std.proofs.lemmas.Option.{cond_some, same_Some}
+use Rattle.list_laws.proofs.Items.{drop_each, take_each}
 use Rattle.exact_text.specs.Readings.{◌>>=◌}
 
 -- each is a byte
@@ -22,14 +24,10 @@ abbrev pub IsBytes : List ℕ → Type 0
 IsBytes bytes = (i : ℕ) → get_or bytes i 0 < 256
 
 pub IsBytes-drop : (n : ℕ) (bytes : List ℕ) → IsBytes bytes → IsBytes (drop n bytes)
-IsBytes-drop n bytes h i = rw get_or-drop (h (n + i))
+IsBytes-drop n bytes h = drop_each (λ (b : ℕ). b < 256) n bytes 0 h
 
 pub IsBytes-take : (n : ℕ) (bytes : List ℕ) → IsBytes bytes → IsBytes (take n bytes)
-IsBytes-take n bytes h i =
-    elim (cases_lt i n) [
-      | inl lt ↦ rw (get_or-take n bytes i 0 lt) (h i)
-      | inr le ↦ rw (get_or_past (take n bytes) i 0 (omega (arith, length-take n bytes))) (omega arith)
-    ]
+IsBytes-take n bytes h = take_each (λ (b : ℕ). b < 256) n bytes 0 (omega arith) h
 
 pub IsBytes-rest : (b : ℕ) (bytes : List ℕ) → IsBytes (b ∷ bytes) → IsBytes bytes
 IsBytes-rest b bytes h i = h (suc i)
@@ -41,9 +39,11 @@ pub record Takes (bytes text rest : List ℕ) : Type 0 where
 
 -- The reading takes just the spellings of the values that fit, where it is known already what Knows says of the value.
 pub record ExactTail {A : Type 0} (read : List ℕ → Option (A × List ℕ)) (text : A → List ℕ) (Knows Fits : A → Type 0) : Type 0 where
-  pub takes : (bytes : List ℕ) (x : A) (rest : List ℕ) → IsBytes bytes → read bytes ≡ Some (x, rest) → Takes bytes (text x) rest × Knows x × Fits x
+  pub takes : (bytes : List ℕ) (x : A) (rest : List ℕ) → IsBytes bytes → read bytes ≡ Some (x, rest)
+      → Takes bytes (text x) rest × Knows x × Fits x
   pub again : (x : A) (rest : List ℕ) → Knows x → Fits x → read (text x ++ rest) ≡ Some (x, rest)
 
+-- what holds of every value
 abbrev pub Always : {A : Type 0} → A → Type 0
 Always x = Unit {0}
 
@@ -58,15 +58,14 @@ abbrev pub given : {A : Type 0} → A → Option A
 given x = Some x
 
 pub some_is : {A : Type 0} (x y : A) → given x ≡ given y → x ≡ y
-some_is x y e = cc
+some_is x y e = same_Some x y e
 
 pub bind_some : {A B : Type 0} (o : Option A) (f : A → Option B) (y : B) → (o >>= f) ≡ Some y → (x : A) × (o ≡ Some x) × (f x ≡ Some y)
 bind_some (Some x) f y e = (x, refl, e)
 bind_some None f y e = absurd cc
 
 pub guard_some : {A : Type 0} (t : Bool) (x y : A) → cond t (given x) None ≡ given y → (t ≡ true) × (x ≡ y)
-guard_some true x y e = (refl, some_is x y e)
-guard_some false x y e = absurd cc
+guard_some t x y e = cond_some t x y e
 
 pub guard_none : {A : Type 0} (t : Bool) (x y : A) → cond t None (given x) ≡ given y → (t ≡ false) × (x ≡ y)
 guard_none true x y e = absurd cc
@@ -79,7 +78,8 @@ chosen false x y z e = inr (refl, e)
 -- ---- one field, and the end
 
 -- a field, and then the rest of a value
-pub field_then : {A X : Type 0} (read : List ℕ → Option (A × List ℕ)) (text : A → List ℕ) (Fits : A → Type 0) (field : X → A) (others : X → List ℕ) (Both Good : X → Type 0) (more : A × List ℕ → Option (X × List ℕ)) (Knows : X → Type 0)
+pub field_then : {A X : Type 0} (read : List ℕ → Option (A × List ℕ)) (text : A → List ℕ) (Fits : A → Type 0) (field : X → A)
+    (others : X → List ℕ) (Both Good : X → Type 0) (more : A × List ℕ → Option (X × List ℕ)) (Knows : X → Type 0)
     → Exact read text Fits
     → ((x : X) → Knows x → Fits (field x) → Good x → Both x)
     → ((x : X) → Knows x → Both x → Fits (field x) × Good x)
@@ -91,16 +91,22 @@ field_then {A} {X} read text Fits field others Both Good more Knows first to fro
       let t = first.takes bytes b.0.0 b.0.1 fits b.1 in
       let u = (second b.0.0 t.2).takes b.0.1 x rest t.0.rest_fits b.2 in
       let same : field x ≡ b.0.0 = u.1.1 in
-      let parts : bytes ≡ (text b.0.0 ++ others x) ++ rest = t.0.parts ∙ ap (λ (z : List ℕ). text b.0.0 ++ z) u.0.parts ∙ sym (append_assoc (text b.0.0) (others x) rest) in
-      (record { parts = subst (λ (a : A). bytes ≡ (text a ++ others x) ++ rest) (sym same) parts; rest_fits = u.0.rest_fits }, u.1.0, to x u.1.0 (subst Fits (sym same) t.2) u.2);
+      let parts : bytes ≡ (text b.0.0 ++ others x) ++ rest = t.0.parts ∙ ap (λ (z : List ℕ). text b.0.0 ++ z) u.0.parts
+      ∙ sym (append_assoc (text b.0.0) (others x) rest) in (
+        record { parts = subst (λ (a : A). bytes ≡ (text a ++ others x) ++ rest) (sym same) parts; rest_fits = u.0.rest_fits },
+        u.1.0,
+        to x u.1.0 (subst Fits (sym same) t.2) u.2,
+      );
   again = λ x rest known both.
       let good = from x known both in
       let regrouped : (text (field x) ++ others x) ++ rest ≡ text (field x) ++ (others x ++ rest) = append_assoc (text (field x)) (others x) rest in
-      ap (λ (bytes : List ℕ). read bytes >>= more) regrouped ∙ rw (first.again (field x) (others x ++ rest) tt good.0) ((second (field x) good.0).again x rest (known, refl) good.1);
+      ap (λ (bytes : List ℕ). read bytes >>= more) regrouped
+      ∙ rw (first.again (field x) (others x ++ rest) tt good.0) ((second (field x) good.0).again x rest (known, refl) good.1);
 }
 
 -- a value whose fields were all read
-pub Exact-done : {X : Type 0} (value : X) (Knows : X → Type 0) → Knows value → ((x : X) → Knows x → x ≡ value) → ExactTail (λ rest. Some (value, rest)) (λ x. []) Knows Always
+pub Exact-done : {X : Type 0} (value : X) (Knows : X → Type 0) → Knows value → ((x : X) → Knows x → x ≡ value)
+    → ExactTail (λ rest. Some (value, rest)) (λ x. []) Knows Always
 Exact-done {X} value Knows known only = record {
   takes = λ bytes x rest fits e.
       let same : (value, bytes) ≡ (x, rest) = some_is (value, bytes) (x, rest) e in
@@ -111,7 +117,8 @@ Exact-done {X} value Knows known only = record {
 }
 
 -- a value of which nothing is left to read
-pub Exact-value : {X : Type 0} (value : X) (text : X → List ℕ) (Knows Fits : X → Type 0) → Knows value → ((x : X) → Knows x → x ≡ value) → text value ≡ [] → Fits value → ExactTail (λ rest. Some (value, rest)) text Knows Fits
+pub Exact-value : {X : Type 0} (value : X) (text : X → List ℕ) (Knows Fits : X → Type 0) → Knows value → ((x : X) → Knows x → x ≡ value)
+    → text value ≡ [] → Fits value → ExactTail (λ rest. Some (value, rest)) text Knows Fits
 Exact-value {X} value text Knows Fits known only nothing good = record {
   takes = λ bytes x rest fits e.
       let same : (value, bytes) ≡ (x, rest) = some_is (value, bytes) (x, rest) e in
@@ -127,54 +134,68 @@ Exact-value {X} value text Knows Fits known only nothing good = record {
 -- ---- the same law in other words
 
 -- what fits, in other words
-pub Exact-says : {A : Type 0} (read : List ℕ → Option (A × List ℕ)) (text : A → List ℕ) (Knows Fits Good : A → Type 0) → ((x : A) → Knows x → Fits x → Good x) → ((x : A) → Knows x → Good x → Fits x) → ExactTail read text Knows Fits → ExactTail read text Knows Good
+pub Exact-says : {A : Type 0} (read : List ℕ → Option (A × List ℕ)) (text : A → List ℕ) (Knows Fits Good : A → Type 0)
+    → ((x : A) → Knows x → Fits x → Good x) → ((x : A) → Knows x → Good x → Fits x) → ExactTail read text Knows Fits
+    → ExactTail read text Knows Good
 Exact-says read text Knows Fits Good to from exact = record {
   takes = λ bytes x rest fits e. let t = exact.takes bytes x rest fits e in (t.0, t.1, to x t.1 t.2);
   again = λ x rest known good. exact.again x rest known (from x known good);
 }
 
 -- what is known, in other words
-pub Exact-knows : {A : Type 0} (read : List ℕ → Option (A × List ℕ)) (text : A → List ℕ) (Knows Other Fits : A → Type 0) → ((x : A) → Knows x → Other x) → ((x : A) → Other x → Knows x) → ExactTail read text Knows Fits → ExactTail read text Other Fits
+pub Exact-knows : {A : Type 0} (read : List ℕ → Option (A × List ℕ)) (text : A → List ℕ) (Knows Other Fits : A → Type 0)
+    → ((x : A) → Knows x → Other x) → ((x : A) → Other x → Knows x) → ExactTail read text Knows Fits → ExactTail read text Other Fits
 Exact-knows read text Knows Other Fits to from exact = record {
   takes = λ bytes x rest fits e. let t = exact.takes bytes x rest fits e in (t.0, to x t.1, t.2);
   again = λ x rest other good. exact.again x rest (from x other) good;
 }
 
 -- the same text, spelled otherwise
-pub Exact-text : {A : Type 0} (read : List ℕ → Option (A × List ℕ)) (text other : A → List ℕ) (Knows Fits : A → Type 0) → ((x : A) → text x ≡ other x) → ExactTail read text Knows Fits → ExactTail read other Knows Fits
+pub Exact-text : {A : Type 0} (read : List ℕ → Option (A × List ℕ)) (text other : A → List ℕ) (Knows Fits : A → Type 0)
+    → ((x : A) → text x ≡ other x) → ExactTail read text Knows Fits → ExactTail read other Knows Fits
 Exact-text read text other Knows Fits same exact = record {
-  takes = λ bytes x rest fits e. let t = exact.takes bytes x rest fits e in (record { parts = rw (← same x) t.0.parts; rest_fits = t.0.rest_fits }, t.1, t.2);
+  takes = λ bytes x rest fits e. let t = exact.takes bytes x rest fits e in
+      (record { parts = rw (← same x) t.0.parts; rest_fits = t.0.rest_fits }, t.1, t.2);
   again = λ x rest known good. rw (← same x) (exact.again x rest known good);
 }
 
 -- The same text, spelled otherwise for what is known, and what fits, in other words: as for one variant of an enum.
-pub Exact-as : {A : Type 0} (read : List ℕ → Option (A × List ℕ)) (text other : A → List ℕ) (Knows Fits Good : A → Type 0) → ((x : A) → Knows x → text x ≡ other x) → ((x : A) → Knows x → Fits x → Good x) → ((x : A) → Knows x → Good x → Fits x) → ExactTail read text Knows Fits → ExactTail read other Knows Good
+pub Exact-as : {A : Type 0} (read : List ℕ → Option (A × List ℕ)) (text other : A → List ℕ) (Knows Fits Good : A → Type 0)
+    → ((x : A) → Knows x → text x ≡ other x) → ((x : A) → Knows x → Fits x → Good x) → ((x : A) → Knows x → Good x → Fits x)
+    → ExactTail read text Knows Fits → ExactTail read other Knows Good
 Exact-as read text other Knows Fits Good same to from exact = record {
-  takes = λ bytes x rest fits e. let t = exact.takes bytes x rest fits e in (record { parts = rw (← same x t.1) t.0.parts; rest_fits = t.0.rest_fits }, t.1, to x t.1 t.2);
+  takes = λ bytes x rest fits e. let t = exact.takes bytes x rest fits e in
+      (record { parts = rw (← same x t.1) t.0.parts; rest_fits = t.0.rest_fits }, t.1, to x t.1 t.2);
   again = λ x rest known good. rw (← same x known) (exact.again x rest known (from x known good));
 }
 
 -- ---- alternatives
 
 -- bytes that have no reading, where no value fits
-pub Exact-none : {A : Type 0} (text : A → List ℕ) (Knows Fits : A → Type 0) → ((x : A) → Knows x → Fits x → ⊥) → ExactTail (λ bytes. None) text Knows Fits
+pub Exact-none : {A : Type 0} (text : A → List ℕ) (Knows Fits : A → Type 0) → ((x : A) → Knows x → Fits x → ⊥)
+    → ExactTail (λ bytes. None) text Knows Fits
 Exact-none text Knows Fits never = record {
   takes = λ bytes x rest fits e. absurd cc;
   again = λ x rest known good. absurd (never x known good);
 }
 
 -- a reading or another, by a test that does not see the bytes
-pub choice : {A : Type 0} (t : Bool) (this that : List ℕ → Option (A × List ℕ)) (text : A → List ℕ) (Knows Fits : A → Type 0) → (t ≡ true → ExactTail this text Knows Fits) → (t ≡ false → ExactTail that text Knows Fits) → ExactTail (λ bytes. cond t (this bytes) (that bytes)) text Knows Fits
+pub choice : {A : Type 0} (t : Bool) (this that : List ℕ → Option (A × List ℕ)) (text : A → List ℕ) (Knows Fits : A → Type 0)
+    → (t ≡ true → ExactTail this text Knows Fits) → (t ≡ false → ExactTail that text Knows Fits)
+    → ExactTail (λ bytes. cond t (this bytes) (that bytes)) text Knows Fits
 choice true this that text Knows Fits if_true if_false = if_true refl
 choice false this that text Knows Fits if_true if_false = if_false refl
 
 -- a reading or another, by a tag that was read
-pub tag_choice : {A : Type 0} (tag value : ℕ) (this that : List ℕ → Option (A × List ℕ)) (text : A → List ℕ) (Knows Fits : A → Type 0) → (tag ≡ value → ExactTail this text Knows Fits) → ((tag ≡ value → ⊥) → ExactTail that text Knows Fits) → ExactTail (λ bytes. cond (eqb tag value) (this bytes) (that bytes)) text Knows Fits
+pub tag_choice : {A : Type 0} (tag value : ℕ) (this that : List ℕ → Option (A × List ℕ)) (text : A → List ℕ) (Knows Fits : A → Type 0)
+    → (tag ≡ value → ExactTail this text Knows Fits) → ((tag ≡ value → ⊥) → ExactTail that text Knows Fits)
+    → ExactTail (λ bytes. cond (eqb tag value) (this bytes) (that bytes)) text Knows Fits
 tag_choice tag value this that text Knows Fits same other =
     choice (eqb tag value) this that text Knows Fits (λ t. same (eqb-true tag value t)) (λ f. other (eqb-false tag value f))
 
 -- A variant of an enum by its payload: make is the variant.
-pub variant_of : {Y A : Type 0} (read : List ℕ → Option (Y × List ℕ)) (text : Y → List ℕ) (Fits : Y → Type 0) (make : Y → A) (spelled : A → List ℕ) (Knows Good : A → Type 0)
+pub variant_of : {Y A : Type 0} (read : List ℕ → Option (Y × List ℕ)) (text : Y → List ℕ) (Fits : Y → Type 0) (make : Y → A)
+    (spelled : A → List ℕ) (Knows Good : A → Type 0)
     → Exact read text Fits
     → ((y : Y) → spelled (make y) ≡ text y)
     → ((y : Y) → Fits y → Knows (make y) × Good (make y))

@@ -1,12 +1,13 @@
 -- Readings: what stands at the front of bytes, as a value and the bytes after it, or none.
 -- (This project's own. Numbers have their highest byte first, as in RFC 3550, section 4.)
-use Rattle.std.specs.Prelude.{◌≡◌, ℕ, zero, suc, List, [], ◌∷◌, length, take, drop, Option, Some, None, option_and_then, Result, Ok, Err, nat_lt, ◌==◌, if◌then◌else◌}
+use Rattle.std.specs.Prelude.{◌≡◌, ℕ, zero, suc, List, [], ◌∷◌, length, take, drop, Option, Some}
+use Rattle.std.specs.Prelude.{None, option_and_then, Result, Ok, Err, nat_lt, ◌==◌, if◌then◌else◌}
 use Rattle.std.specs.List.{starts_with}
 use Rattle.byteorder.specs.Endian.{big_number}
 use Rattle.exact_text.specs.declared.misread.Misread.{Misread}
 use Rattle.exact_text.specs.declared.misread.Misread.TheVariants.{NoReading, NoMemory}
 
--- One reading and then another, which a do block joins.
+-- One reading and then another, which a `do` expression joins.
 infixl 10 ◌>>=◌
 abbrev pub ◌>>=◌ : {A B : Type 0} → Option A → (A → Option B) → Option B
 o >>= f = option_and_then f o
@@ -28,7 +29,8 @@ byte_at (b ∷ rest) = Some (b, rest)
 
 -- A number of k bytes, the highest first.
 abbrev pub number_at : ℕ → List ℕ → Option (ℕ × List ℕ)
-number_at k bytes = if nat_lt (length bytes) k then None else Some (big_number k bytes, drop k bytes)
+number_at k bytes = if nat_lt (length bytes) k then None
+    else Some (big_number k bytes, drop k bytes)
 
 -- A text of n bytes.
 abbrev pub text_at : ℕ → List ℕ → Option (List ℕ × List ℕ)
@@ -40,10 +42,12 @@ expected_at value bytes = byte_at bytes >>= λ b. (if b.0 == value then Some b.1
 
 -- Given bytes, and what is behind them.
 abbrev pub literal_at : List ℕ → List ℕ → Option (List ℕ)
-literal_at front bytes = if starts_with ◌==◌ bytes front then Some (drop (length front) bytes) else None
+literal_at front bytes = if starts_with ◌==◌ bytes front then Some (drop (length front) bytes)
+    else None
 
 -- So many values, one behind the other.
-abbrev pub many_at : {A : Type 0} → (List ℕ → Option (A × List ℕ)) → ℕ → List ℕ → Option (List A × List ℕ)
+abbrev pub many_at : {A : Type 0} → (List ℕ → Option (A × List ℕ)) → ℕ → List ℕ
+    → Option (List A × List ℕ)
 many_at read zero bytes = Some ([], bytes)
 many_at read (suc n) bytes = do
   first ← read bytes

@@ -6,13 +6,14 @@ ghost use Rattle.exact_text.specs.Readings.{Gives, byte_at, number_at, many_at};
 use crate::{Misread, byte, number16, number32, number64};
 use std::alloc::Global;
 
-/// A way to read values of a type from bytes. It is a type of its own, so that a crate can say how values of another
-/// crate's types are read.
+/// A way to read values of a type from bytes. It is a type of its own, so that a crate can say how
+/// values of another crate's types are read.
 pub trait Reads<T: Drop> {
     /// What bytes read as: the value at their front and the bytes after it, or none.
     ghost reading: { List ℕ → Option (T × List ℕ) };
 
-    /// The value at the front of the bytes, and the bytes after it. `NoReading` exactly where they have no reading.
+    /// The value at the front of the bytes, and the bytes after it. `NoReading` exactly where they
+    /// have no reading.
     fn read(alloc: Global, bytes: &[u8]) -> Result<(T, &[u8]), Misread>
         ensures { Gives (λ x. (x.0, x.1.now)) result (reading bytes.now) };
 }
@@ -52,7 +53,8 @@ impl Reads<u64> for NetworkOrder {
     }
 }
 
-/// The next `count` values, one behind the other, and the bytes after them. `NoReading` where one has none.
+/// The next `count` values, one behind the other, and the bytes after them. `NoReading` where one
+/// has none.
 pub fn many<R: Reads<T>, T: Drop>(
     alloc: Global,
     count: usize,

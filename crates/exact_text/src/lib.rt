@@ -1,10 +1,11 @@
-//! Texts of bytes that are read exactly: readers at the front of a slice, spellings, and the laws that what is read
-//! is spelled so and that what is spelled so is read again, whatever follows.
+//! Texts of bytes that are read exactly: readers at the front of a slice, spellings, and the laws
+//! that what is read is spelled so and that what is spelled so is read again, whatever follows.
 //!
-//! A reading is a function from bytes to a value and the bytes after it. Each reader here returns just what its
-//! reading gives (`Gives`), so a crate above proves its own readers by unfolding one `do` block. A spelling is a
-//! function from a value to bytes. That both fit each other (`Exact`, in the proofs of this crate) takes one line a
-//! field: `field_then`, `byte_then`, `number_then`, `text_then`, `many_then`, and `record_then` for tagged bodies.
+//! A reading is a function from bytes to a value and the bytes after it. Each reader here returns
+//! just what its reading gives (`Gives`), so a crate above proves its own readers by unfolding one
+//! `do` expression. A spelling is a function from a value to bytes. That both fit each other
+//! (`Exact`, in the proofs of this crate) takes one line a field: `field_then`, `byte_then`,
+//! `number_then`, `text_then`, `many_then`, and `record_then` for tagged bodies.
 #![tactic(auto)]
 
 mod fields;

@@ -1,7 +1,9 @@
-//! Readers at the front of bytes. Only `text` takes memory: the clause `memory` of the others says that they never want it.
+//! Readers at the front of bytes. Only `text` takes memory: the clause `memory` of the others says
+//! that they never want it.
 
 ghost use Rattle.std.specs.Prelude.{◌≡◌, IsErrOf};
-ghost use Rattle.exact_text.specs.Readings.{Gives, byte_at, number_at, text_at, expected_at, literal_at, nothing_at, record_at};
+ghost use Rattle.exact_text.specs.Readings.{Gives, byte_at, number_at, text_at};
+ghost use Rattle.exact_text.specs.Readings.{expected_at, literal_at, nothing_at, record_at};
 
 use crate::Misread;
 use byteorder::{BigEndian, ByteOrder};
@@ -43,7 +45,8 @@ pub fn literal<'a>(bytes: &'a [u8], front: &[u8]) -> Result<&'a [u8], Misread>
     }
 }
 
-/// The number in the next 2 bytes, the highest first, and the bytes after it. `NoReading` where there are fewer.
+/// The number in the next 2 bytes, the highest first, and the bytes after it. `NoReading` where
+/// there are fewer.
 pub fn number16(bytes: &[u8]) -> Result<(u16, &[u8]), Misread>
     ensures gives { Gives (λ x. (x.0, x.1.now)) result (number_at 2 bytes.now) }
     ensures memory { IsErrOf result Misread.NoMemory → ⊥ }
@@ -54,7 +57,8 @@ pub fn number16(bytes: &[u8]) -> Result<(u16, &[u8]), Misread>
     Ok((BigEndian::read_u16(bytes), &bytes[2..]))
 }
 
-/// The number in the next 4 bytes, the highest first, and the bytes after it. `NoReading` where there are fewer.
+/// The number in the next 4 bytes, the highest first, and the bytes after it. `NoReading` where
+/// there are fewer.
 pub fn number32(bytes: &[u8]) -> Result<(u32, &[u8]), Misread>
     ensures gives { Gives (λ x. (x.0, x.1.now)) result (number_at 4 bytes.now) }
     ensures memory { IsErrOf result Misread.NoMemory → ⊥ }
@@ -65,7 +69,8 @@ pub fn number32(bytes: &[u8]) -> Result<(u32, &[u8]), Misread>
     Ok((BigEndian::read_u32(bytes), &bytes[4..]))
 }
 
-/// The number in the next 8 bytes, the highest first, and the bytes after it. `NoReading` where there are fewer.
+/// The number in the next 8 bytes, the highest first, and the bytes after it. `NoReading` where
+/// there are fewer.
 pub fn number64(bytes: &[u8]) -> Result<(u64, &[u8]), Misread>
     ensures gives { Gives (λ x. (x.0, x.1.now)) result (number_at 8 bytes.now) }
     ensures memory { IsErrOf result Misread.NoMemory → ⊥ }
@@ -95,8 +100,9 @@ pub fn text(alloc: Global, bytes: &[u8], len: usize) -> Result<(Vec<u8>, &[u8]),
     Ok((Vec::from_slice(alloc, front)?, rest))
 }
 
-/// The tag and the body of the next record, and the bytes after it: a byte, the body's length in 4 bytes with the
-/// highest first, and the body. `NoReading` where the bytes end before the record does.
+/// The tag and the body of the next record, and the bytes after it: a byte, the body's length in 4
+/// bytes with the highest first, and the body. `NoReading` where the bytes end before the record
+/// does.
 #[tactic(auto, unfolding(crate::specs::Readings::record_at))]
 pub fn record(bytes: &[u8]) -> Result<(u8, &[u8], &[u8]), Misread>
     ensures gives { Gives (λ x. ((x.0, x.1.now), x.2.now)) result (record_at bytes.now) }

@@ -1,10 +1,12 @@
 -- Whole lines of a head are a head that goes on.
-use Rattle.std.proofs.Common.{◌≡◌, ℕ, ◌+◌, ◌≤◌, ◌⊎◌, Bool, true, false, ◌||◌, ◌==◌, not, List, [], ◌∷◌, ◌++◌, length, drop, All}
+use Rattle.std.proofs.Common.{◌≡◌, ℕ, ◌+◌, ◌≤◌, ◌⊎◌, Bool, true, false}
+use Rattle.std.proofs.Common.{◌||◌, ◌==◌, not, List, [], ◌∷◌, ◌++◌, length, drop, All}
 use Rattle.std.proofs.Common.{refl, sym, ap, ◌∙◌, subst, arith, inl, inr, append_assoc, append-nil, length-append, true≢false}
 use Rattle.std.proofs.Math.Bool.{or-false}
 use Rattle.std.proofs.Math.Seq.{drop-append_seam}
 use Rattle.std.proofs.lemmas.List.Elements.{All-head, All-tail, All-cons}
 use Rattle.std.specs.List.{flat_map, list_any}
+use Rattle.std.proofs.lemmas.Bool.{or_parts}
 use Rattle.httparse.specs.Grammar.{is_token_byte, is_value_byte, is_uri_byte, LineEnd, crlf, lf, Field, IsField, RequestHead, IsRequestHead}
 use Rattle.httparse.specs.Grammar.{print_end, print_blank, print_version, print_field, print_section, print_request, ReadsRequest, HasNoRequest}
 use Rattle.httparse.specs.Pieces.{is_newline}
@@ -20,6 +22,7 @@ use Rattle.http_wire.proofs.ScanLemmas.{line_is, line_append}
 
 -- ---- one line
 
+-- whether there is a line feed among the bytes
 abbrev pub has_feed : List ℕ → Bool
 has_feed bytes = list_any (λ b. b == 10) bytes
 
@@ -38,19 +41,13 @@ tail_is a b s t e = cc
 not_feed : (b : ℕ) (rest : Bool) → ((b == 10) || rest) ≡ false → b ≡ 10 → ⊥
 not_feed b rest none e = true≢false (sym (ap (λ (t : ℕ). (t == 10) || rest) e) ∙ none)
 
-first_of : (first rest : Bool) → (first || rest) ≡ false → first ≡ false
-first_of true rest none = absurd (true≢false none)
-first_of false rest none = refl
-
-rest_of : (first rest : Bool) → (first || rest) ≡ false → rest ≡ false
-rest_of true rest none = absurd (true≢false none)
-rest_of false rest none = none
-
-cut_more : (c : ℕ) (body front more rest : List ℕ) → IsCut (body ++ 10 ∷ []) front more rest → IsCut (c ∷ (body ++ 10 ∷ [])) (c ∷ front) more rest
+cut_more : (c : ℕ) (body front more rest : List ℕ) → IsCut (body ++ 10 ∷ []) front more rest
+    → IsCut (c ∷ (body ++ 10 ∷ [])) (c ∷ front) more rest
 cut_more c body front more rest (inl whole) = inl (ap (λ (s : List ℕ). c ∷ s) whole.0, whole.1)
 cut_more c body front more rest (inr cut) = inr (cut.0, ap (λ (s : List ℕ). c ∷ s) cut.1, cut.2)
 
-pub cut_line : (body front more rest : List ℕ) → has_feed body ≡ false → (front ++ 10 ∷ []) ++ more ≡ (body ++ 10 ∷ []) ++ rest → IsCut (body ++ 10 ∷ []) front more rest
+pub cut_line : (body front more rest : List ℕ) → has_feed body ≡ false → (front ++ 10 ∷ []) ++ more ≡ (body ++ 10 ∷ []) ++ rest
+    → IsCut (body ++ 10 ∷ []) front more rest
 cut_line [] [] more rest none e = inl (refl, tail_is 10 10 more rest e)
 cut_line [] (b ∷ front) more rest none e =
     let first = head_is b 10 _ _ e in
@@ -59,7 +56,7 @@ cut_line (c ∷ body) [] more rest none e = absurd (not_feed c (has_feed body) n
 cut_line (c ∷ body) (b ∷ front) more rest none e =
     let first = head_is b c _ _ e in
     subst (λ (n : ℕ). IsCut (c ∷ (body ++ 10 ∷ [])) (n ∷ front) more rest) (sym first)
-    (cut_more c body front more rest (cut_line body front more rest (rest_of (c == 10) (has_feed body) none) (tail_is b c _ _ e)))
+    (cut_more c body front more rest (cut_line body front more rest (or_parts (c == 10) (has_feed body) none).1 (tail_is b c _ _ e)))
 
 -- ---- field lines
 
@@ -76,6 +73,7 @@ no_feed_in_end : (end : LineEnd) → has_feed (before_feed end) ≡ false
 no_feed_in_end crlf = refl
 no_feed_in_end lf = refl
 
+-- a field line without its line feed
 abbrev pub field_body : Field → List ℕ
 field_body f = f.name ++ (58 ∷ (f.raw ++ before_feed f.end))
 
@@ -92,7 +90,8 @@ no_feed_in_field f field =
 
 -- the bytes are whole field lines, or the fields and the empty line
 abbrev pub AreLines : List Field → LineEnd → List ℕ → Type 0
-AreLines fields last bytes = (bytes ≡ flat_map print_field fields ++ print_end last) ⊎ ((fs : List Field) × All IsField fs × (bytes ≡ flat_map print_field fs))
+AreLines fields last bytes = (bytes ≡ flat_map print_field fields ++ print_end last)
+    ⊎ ((fs : List Field) × All IsField fs × (bytes ≡ flat_map print_field fs))
 
 lines_behind : (f : Field) (fields : List Field) (last : LineEnd) (bytes later : List ℕ) → IsField f → bytes ≡ print_field f ++ later
     → AreLines fields last later → AreLines (f ∷ fields) last bytes
@@ -117,12 +116,14 @@ first_field : (f : Field) (fields : List Field) (last : LineEnd) (front more : L
 first_field f fields last front more field go (inl whole) =
     inr (f ∷ [], All-cons IsField f [] field no_fields, whole.0 ∙ sym (field_is f) ∙ sym (append-nil (print_field f)))
 first_field f fields last front more field go (inr cut) =
-    lines_behind f fields last (front ++ 10 ∷ []) (cut.0 ++ 10 ∷ []) field (cut.1 ∙ ap (λ (s : List ℕ). s ++ (cut.0 ++ 10 ∷ [])) (sym (field_is f))) (go cut.0 cut.2)
+    lines_behind f fields last (front ++ 10 ∷ []) (cut.0 ++ 10 ∷ []) field (cut.1 ∙ ap (λ (s : List ℕ). s ++ (cut.0 ++ 10 ∷ [])) (sym (field_is f)))
+    (go cut.0 cut.2)
 
 pub cut_fields : (fields : List Field) (last : LineEnd) (front more : List ℕ) → All IsField fields
     → (front ++ 10 ∷ []) ++ more ≡ flat_map print_field fields ++ print_end last → AreLines fields last (front ++ 10 ∷ [])
 cut_fields [] last front more valid e =
-    last_lines last front more (cut_line (before_feed last) front more [] (no_feed_in_end last) (e ∙ end_is last ∙ sym (append-nil (before_feed last ++ 10 ∷ []))))
+    last_lines last front more (cut_line (before_feed last) front more [] (no_feed_in_end last) (e ∙ end_is last
+    ∙ sym (append-nil (before_feed last ++ 10 ∷ []))))
 cut_fields (f ∷ fields) last front more valid e =
     let field = All-head IsField f fields valid in
     let rest = flat_map print_field fields ++ print_end last in
@@ -134,6 +135,7 @@ cut_fields (f ∷ fields) last front more valid e =
 
 -- ---- the start line
 
+-- a start line without its line feed
 abbrev pub start_body : RequestHead → List ℕ
 start_body h = h.method ++ (32 ∷ (h.target ++ (32 ∷ (print_version h.minor ++ before_feed h.line_end))))
 
@@ -147,20 +149,24 @@ no_feed_in_start h valid =
     (no_feed_in_version h.minor (before_feed h.line_end) valid.minor (no_feed_in_end h.line_end)))
 
 -- the bytes of a head: empty lines, the start line, fields and the empty line
-start_is : (h : RequestHead) → print_request h ++ [] ≡ print_blank h.blank ++ ((start_body h ++ 10 ∷ []) ++ (flat_map print_field h.fields ++ print_end h.last))
+start_is : (h : RequestHead) → print_request h ++ [] ≡ print_blank h.blank
+    ++ ((start_body h ++ 10 ∷ []) ++ (flat_map print_field h.fields ++ print_end h.last))
 start_is h =
     print_request-append h []
-    ∙ ap (λ (s : List ℕ). print_blank h.blank ++ (h.method ++ 32 ∷ (h.target ++ 32 ∷ (print_version h.minor ++ (s ++ (print_section h.fields h.last ++ [])))))) (end_is h.line_end)
+    ∙ ap (λ (s : List ℕ). print_blank h.blank ++ (h.method
+    ++ 32 ∷ (h.target ++ 32 ∷ (print_version h.minor ++ (s ++ (print_section h.fields h.last ++ [])))))) (end_is h.line_end)
     ∙ regroup (print_blank h.blank) h.method h.target (print_version h.minor) (before_feed h.line_end) (flat_map print_field h.fields ++ print_end h.last)
   where
     regroup : (a b c d e f : List ℕ)
         → a ++ (b ++ 32 ∷ (c ++ 32 ∷ (d ++ ((e ++ 10 ∷ []) ++ (f ++ []))))) ≡ a ++ (((b ++ (32 ∷ (c ++ (32 ∷ (d ++ e))))) ++ 10 ∷ []) ++ f)
     regroup a b c d e f = simp (append_assoc, cons-append, append-nil)
 
-lines_are : (h : RequestHead) (fs : List Field) → lines_text (record h { fields = fs }) ≡ print_blank h.blank ++ ((start_body h ++ 10 ∷ []) ++ flat_map print_field fs)
+lines_are : (h : RequestHead) (fs : List Field)
+    → lines_text (record h { fields = fs }) ≡ print_blank h.blank ++ ((start_body h ++ 10 ∷ []) ++ flat_map print_field fs)
 unfolding lines_text
 lines_are h fs =
-    ap (λ (s : List ℕ). print_blank h.blank ++ (h.method ++ 32 ∷ (h.target ++ 32 ∷ (print_version h.minor ++ (s ++ flat_map print_field fs))))) (end_is h.line_end)
+    ap (λ (s : List ℕ). print_blank h.blank ++ (h.method ++ 32 ∷ (h.target ++ 32 ∷ (print_version h.minor ++ (s ++ flat_map print_field fs)))))
+    (end_is h.line_end)
     ∙ regroup (print_blank h.blank) h.method h.target (print_version h.minor) (before_feed h.line_end) (flat_map print_field fs)
   where
     regroup : (a b c d e f : List ℕ)
@@ -198,14 +204,16 @@ one_blank end before front more rest tail has go (inr cut) =
     let later_has = sym (blank_skipped end (cut.0 ++ 10 ∷ [])) ∙ ap has_line (sym cut.1) ∙ has in
     behind_blank end before front more rest cut.0 cut.1 (go cut.0 later_has cut.2)
 
-cut_blank : (blank : List LineEnd) (front more rest : List ℕ) → has_line (front ++ 10 ∷ []) ≡ true → (front ++ 10 ∷ []) ++ more ≡ print_blank blank ++ rest
+cut_blank : (blank : List LineEnd) (front more rest : List ℕ) → has_line (front ++ 10 ∷ []) ≡ true
+    → (front ++ 10 ∷ []) ++ more ≡ print_blank blank ++ rest
     → IsBehind (print_blank blank) front more rest
 cut_blank [] front more rest has e = (front, refl, e)
 cut_blank (end ∷ blank) front more rest has e =
     let tail = print_blank blank ++ rest in
     let text : (front ++ 10 ∷ []) ++ more ≡ (before_feed end ++ 10 ∷ []) ++ tail =
     e ∙ append_assoc (print_end end) (print_blank blank) rest ∙ ap (λ (s : List ℕ). s ++ tail) (end_is end) in
-    one_blank end (print_blank blank) front more rest tail has (λ later h g. cut_blank blank later more rest h g) (cut_line (before_feed end) front more tail (no_feed_in_end end) text)
+    one_blank end (print_blank blank) front more rest tail has
+    (λ later h g. cut_blank blank later more rest h g) (cut_line (before_feed end) front more tail (no_feed_in_end end) text)
 
 lines_part : (bytes : List ℕ) (h : RequestHead) (fs : List Field) → IsRequestHead h → All IsField fs
     → bytes ≡ print_blank h.blank ++ ((start_body h ++ 10 ∷ []) ++ flat_map print_field fs) → HasPart bytes Start
@@ -218,7 +226,8 @@ lines_part bytes h fs valid fields e = record {
 }
 
 fields_part : (front : List ℕ) (h : RequestHead) (later : List ℕ) → IsRequestHead h → HasNoRequest (front ++ 10 ∷ [])
-    → front ++ 10 ∷ [] ≡ print_blank h.blank ++ ((start_body h ++ 10 ∷ []) ++ later) → AreLines h.fields h.last later → HasPart (front ++ 10 ∷ []) Start
+    → front ++ 10 ∷ [] ≡ print_blank h.blank ++ ((start_body h ++ 10 ∷ []) ++ later) → AreLines h.fields h.last later
+    → HasPart (front ++ 10 ∷ []) Start
 fields_part front h later valid none e (inl whole) =
     absurd (none h [] (valid, e ∙ ap (λ (s : List ℕ). print_blank h.blank ++ ((start_body h ++ 10 ∷ []) ++ s)) whole ∙ sym (start_is h)))
 fields_part front h later valid none e (inr part) =
@@ -228,9 +237,11 @@ start_part : (front : List ℕ) (h : RequestHead) (more : List ℕ) → IsReques
     → (behind : IsBehind (print_blank h.blank) front more ((start_body h ++ 10 ∷ []) ++ (flat_map print_field h.fields ++ print_end h.last)))
     → IsCut (start_body h ++ 10 ∷ []) behind.0 more (flat_map print_field h.fields ++ print_end h.last) → HasPart (front ++ 10 ∷ []) Start
 start_part front h more valid none behind (inl whole) =
-    lines_part (front ++ 10 ∷ []) h [] valid no_fields (behind.1 ∙ ap (λ (s : List ℕ). print_blank h.blank ++ s) (whole.0 ∙ sym (append-nil (start_body h ++ 10 ∷ []))))
+    lines_part (front ++ 10 ∷ []) h [] valid no_fields (behind.1
+    ∙ ap (λ (s : List ℕ). print_blank h.blank ++ s) (whole.0 ∙ sym (append-nil (start_body h ++ 10 ∷ []))))
 start_part front h more valid none behind (inr cut) =
-    fields_part front h (cut.0 ++ 10 ∷ []) valid none (behind.1 ∙ ap (λ (s : List ℕ). print_blank h.blank ++ s) cut.1) (cut_fields h.fields h.last cut.0 more valid.fields cut.2)
+    fields_part front h (cut.0 ++ 10 ∷ []) valid none (behind.1 ∙ ap (λ (s : List ℕ). print_blank h.blank ++ s) cut.1)
+    (cut_fields h.fields h.last cut.0 more valid.fields cut.2)
 
 -- bytes that end with a line feed, and that can become a head, are whole lines of one
 pub lines_of : (bytes front : List ℕ) → bytes ≡ front ++ 10 ∷ [] → has_line bytes ≡ true → IsOpen bytes → HasPart bytes Start
@@ -248,8 +259,9 @@ lines_of bytes front e has is_open =
 
 no_feed_no_line : (begun : Bool) (bytes : List ℕ) → has_feed bytes ≡ false → has_line_from begun bytes ≡ false
 no_feed_no_line begun [] none = refl
-no_feed_no_line true (b ∷ bytes) none = rw (first_of (b == 10) (has_feed bytes) none) (no_feed_no_line true bytes (rest_of (b == 10) (has_feed bytes) none))
-no_feed_no_line false (b ∷ bytes) none = no_feed_no_line (not (is_newline b)) bytes (rest_of (b == 10) (has_feed bytes) none)
+no_feed_no_line true (b ∷ bytes) none = rw (or_parts (b == 10) (has_feed bytes) none).0
+    (no_feed_no_line true bytes (or_parts (b == 10) (has_feed bytes) none).1)
+no_feed_no_line false (b ∷ bytes) none = no_feed_no_line (not (is_newline b)) bytes (or_parts (b == 10) (has_feed bytes) none).1
 
 line_in_lines : (lines rest : List ℕ) → has_feed rest ≡ false → has_line (lines ++ rest) ≡ true → has_line lines ≡ true
 line_in_lines lines rest none has =
@@ -263,7 +275,8 @@ open_lines lines rest has is_open =
       (λ line. (rest ++ can.0, can.1, subst (λ (s : List ℕ). ReadsRequest s can.1 []) (append_assoc lines rest can.0) can.2)),
     )
 
-part_of_ends : (lines : List ℕ) → (lines ≡ []) ⊎ ((front : List ℕ) × (lines ≡ front ++ 10 ∷ [])) → has_line lines ≡ true → IsOpen lines → HasPart lines Start
+part_of_ends : (lines : List ℕ) → (lines ≡ []) ⊎ ((front : List ℕ) × (lines ≡ front ++ 10 ∷ [])) → has_line lines ≡ true → IsOpen lines
+    → HasPart lines Start
 part_of_ends lines (inl empty) has is_open = absurd (true≢false (sym has ∙ ap has_line empty))
 part_of_ends lines (inr ends) has is_open = lines_of lines ends.0 ends.1 has is_open
 

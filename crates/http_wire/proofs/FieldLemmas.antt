@@ -2,8 +2,9 @@
 use Rattle.std.proofs.lemmas.Grind.{common_steps}
 use Rattle.std.proofs.Common.{Bool, ◌++◌, drop, take, slice_range, sym, ap, ◌∙◌, take-append-drop}
 use Rattle.std.proofs.Common.{length-take, length-drop, drop-drop, ◌≡◌, ℕ, List, [], ◌∷◌}
-use Rattle.std.proofs.Common.{length, ◌+◌, ◌*◌, ◌<◌, ◌≤◌, ◌⊎◌, inl, inr, min, arith, true, false, true≢false, get_or, ◌&&◌, ◌-◌, refl}
-use Rattle.std.proofs.lemmas.Bool.{cases_lt}
+use Rattle.std.proofs.Common.{length, ◌+◌, ◌*◌, ◌<◌, ◌≤◌, ◌⊎◌, inl, inr, min}
+use Rattle.std.proofs.Common.{arith, true, get_or, ◌-◌}
+use Rattle.std.proofs.lemmas.Bool.{and_parts, cases_lt}
 use Rattle.std.proofs.lemmas.List.{drop_more}
 use Rattle.std.proofs.lemmas.Str.{digit_value_digit}
 use Rattle.std.specs.Int.{IsInRange}
@@ -16,6 +17,7 @@ use Rattle.http_wire.specs.declared.request.Method.{Method}
 use Rattle.http_wire.specs.declared.fields.Values.{Values}
 use Rattle.http_wire.specs.declared.fields.Values.TheVariants.{Missing, One, Several}
 
+-- what the values found so far, and those still to come, say of all values
 abbrev pub SoFar : List ℕ → List (List ℕ) → List (List ℕ) → Values → Type 0
 SoFar held whole rest Missing = whole ≡ rest
 SoFar held whole rest (One span) = (whole ≡ span_bytes held span ∷ rest) × IsWithin (length held) span
@@ -26,7 +28,8 @@ pub value_grows : (ds : List ℕ) (n : ℕ) → n ≤ digits_value_after 10 n ds
 value_grows [] n = omega arith
 value_grows (d ∷ ds) n = omega (arith, value_grows ds (n * 10 + digit_value d))
 
-cut_off_by : (most x : ℕ) (ds : List ℕ) → x < most ⊎ most ≤ x → min (digits_value_after 10 (min x most) ds) most ≡ min (digits_value_after 10 x ds) most
+cut_off_by : (most x : ℕ) (ds : List ℕ) → x < most ⊎ most ≤ x
+    → min (digits_value_after 10 (min x most) ds) most ≡ min (digits_value_after 10 x ds) most
 cut_off_by most x ds (inl small) = ap (λ (n : ℕ). min (digits_value_after 10 n ds) most) (omega (arith, small))
 cut_off_by most x ds (inr large) =
     let cut : min x most ≡ most = omega (arith, large) in
@@ -36,10 +39,6 @@ cut_off_by most x ds (inr large) =
 -- a number that is cut off on the way is cut off in the end
 pub cut_off : (most x : ℕ) (ds : List ℕ) → min (digits_value_after 10 (min x most) ds) most ≡ min (digits_value_after 10 x ds) most
 cut_off most x ds = cut_off_by most x ds (cases_lt x most)
-
-both : (a b : Bool) → (a && b) ≡ true → (a ≡ true) × (b ≡ true)
-both true b h = (refl, h)
-both false b h = absurd (true≢false (sym h))
 
 digit_range : (b : ℕ) → is_ascii_digit b ≡ true → IsInRange 48 57 b
 digit_range b h = (grind (arith, common_steps), grind (arith, common_steps))
@@ -54,7 +53,7 @@ digit_more most number digits at next within all next_is value =
     let b : ℕ = get_or digits at 0 in
     let rest = drop (at + 1) digits in
     let more : drop at digits ≡ b ∷ rest = drop_more digits at 0 within in
-    let parts = both (is_ascii_digit b) (list_all is_ascii_digit rest) (rw more at all) in
+    let parts = and_parts (is_ascii_digit b) (list_all is_ascii_digit rest) (rw more at all) in
     let digit : digit_value b + 48 ≡ b = digit_value_digit b (digit_range b parts.0) in
     let same : next ≡ min (number * 10 + digit_value b) most = next_is ∙ ap (λ (d : ℕ). min (number * 10 + d) most) (omega (arith, digit)) in
     (ap (λ (n : ℕ). min (digits_value_after 10 n rest) most) same ∙ cut_off most (number * 10 + digit_value b) rest ∙ rw more at value, parts.1)

@@ -16,7 +16,8 @@ use Rattle.http_wire.proofs.HeadLemmas.{fit_at}
 use Rattle.http_wire.proofs.RunLemmas.{fit_append}
 use Rattle.http_wire.proofs.FieldLemmas.{cut_body, same_request}
 
-part_append : (front more : List ℕ) (start end : ℕ) → start ≤ end → end ≤ length front → slice_range (front ++ more) start end ≡ slice_range front start end
+part_append : (front more : List ℕ) (start end : ℕ) → start ≤ end → end ≤ length front
+    → slice_range (front ++ more) start end ≡ slice_range front start end
 part_append front more start end ordered within =
     ap (take (end - start)) (drop-append-le start front more (omega arith))
     ∙ take-append-le (end - start) (drop start front) more (omega (arith, length-drop start front))
@@ -34,7 +35,8 @@ has_head_append bytes head more found =
     let b = found.1 in (
       h,
       record {
-        fit = subst (λ (s : List ℕ). IsFit (bytes ++ more) h s) (sym (drop-append-le head.len bytes more b.within)) (fit_append bytes h (drop head.len bytes) more b.fit);
+        fit = subst (λ (s : List ℕ). IsFit (bytes ++ more) h s) (sym (drop-append-le head.len bytes more b.within))
+            (fit_append bytes h (drop head.len bytes) more b.fit);
         within = omega (arith, b.within, length-append bytes more);
         is = b.is;
         path = path_append bytes more h head b.within b.path;
@@ -42,7 +44,8 @@ has_head_append bytes head more found =
     )
 
 -- the path lies in the window, so it is that of all the bytes
-path_in_front : (bytes : List ℕ) (h : RequestHead) (head : Head) → head.len ≤ length (window bytes) → HasPath (window bytes) h head → HasPath bytes h head
+path_in_front : (bytes : List ℕ) (h : RequestHead) (head : Head) → head.len ≤ length (window bytes) → HasPath (window bytes) h head
+    → HasPath bytes h head
 path_in_front bytes h head within path =
     subst (λ (s : List ℕ). HasPath s h head) (take-append-drop MOST_HEAD bytes) (path_append (window bytes) (drop MOST_HEAD bytes) h head within path)
 
@@ -63,7 +66,8 @@ begins_with_head bytes headers spans h head room inside at len is path =
     )
 
 -- the request of a head whose body is whole
-pub begins_with : (bytes : List ℕ) (h : RequestHead) (head : Head) (path body : List ℕ) → BeginsWithHead bytes h head → head.len + head.body ≤ length bytes
+pub begins_with : (bytes : List ℕ) (h : RequestHead) (head : Head) (path body : List ℕ) → BeginsWithHead bytes h head
+    → head.len + head.body ≤ length bytes
     → path ≡ slice_range bytes head.path.start head.path.end → body ≡ slice_range bytes head.len (head.len + head.body)
     → BeginsWith bytes (record { method = head.method; path = path; body = body; closes = head.closes }) (drop (head.len + head.body) bytes)
 begins_with bytes h head path body b within path_is body_is =

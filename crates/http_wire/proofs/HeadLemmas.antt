@@ -1,5 +1,6 @@
 -- Heads in the held bytes and in their window.
-use Rattle.std.proofs.Common.{◌≡◌, ℕ, ◌+◌, ◌-◌, ◌<◌, ◌≤◌, Bool, true, false, ◌||◌, ◌==◌, List, [], ◌∷◌, ◌++◌, length}
+use Rattle.std.proofs.Common.{◌≡◌, ℕ, ◌+◌, ◌-◌, ◌<◌, ◌≤◌, Bool, true}
+use Rattle.std.proofs.Common.{false, ◌||◌, ◌==◌, List, [], ◌∷◌, ◌++◌, length}
 use Rattle.std.proofs.Common.{take, drop, refl, sym, ap, ◌∙◌, subst, arith}
 use Rattle.std.proofs.Common.{inl, inr, append_assoc, append-nil, take_all, take-append-drop, length-take, true≢false}
 use Rattle.std.proofs.Math.Seq.{take-append-add, drop-append_seam}
@@ -37,10 +38,18 @@ fit_at held headers spans h room inside at =
     let p = print_request h in
     let more = drop spans.len (window held) ++ drop MOST_HEAD held in
     let reads : ReadsRequest held h more =
-    subst (λ (s : List ℕ). ReadsRequest s h more) (take-append-drop MOST_HEAD held) (ReadsRequest-append (window held) h _ (drop MOST_HEAD held) at.reads) in
+    subst (λ (s : List ℕ). ReadsRequest s h more) (take-append-drop MOST_HEAD held)
+    (ReadsRequest-append (window held) h _ (drop MOST_HEAD held) at.reads) in
     let rest : drop spans.len held ≡ more = ap (λ (k : ℕ). drop k held) at.len ∙ ap (drop (length p)) reads.1 ∙ drop-append_seam p more in
     let read = length-map (take spans.headers headers) (header_bytes (window held)) in
-    let count : length h.fields ≤ MOST_FIELDS = omega (arith, ap length at.fields, read, length-map h.fields name_and_value, length-take spans.headers headers, inside.section.count_fits) in
+    let count : length h.fields ≤ MOST_FIELDS = omega (
+      arith,
+      ap length at.fields,
+      read,
+      length-map h.fields name_and_value,
+      length-take spans.headers headers,
+      inside.section.count_fits,
+    ) in
     let len_fits = inside.section.len_fits in
     let size : length p ≤ MOST_HEAD = omega (arith, at.len, length-take MOST_HEAD held) in
     record { reads = rw rest reads; fields = count; size = size }
@@ -60,7 +69,8 @@ doubtful held over more b =
 pub neither : (b : ℕ) (rest : Bool) → (b ≡ 10 → ⊥) → rest ≡ false → ((b == 10) || rest) ≡ false
 neither b rest other e = rw e (grind (arith, nat_tests, other))
 
-pub no_line_feed : (test : ℕ → Bool) → test 10 ≡ false → (bytes more : List ℕ) → AllPass test bytes → list_any (λ b. b == 10) more ≡ false → list_any (λ b. b == 10) (bytes ++ more) ≡ false
+pub no_line_feed : (test : ℕ → Bool) → test 10 ≡ false → (bytes more : List ℕ) → AllPass test bytes → list_any (λ b. b == 10) more ≡ false
+    → list_any (λ b. b == 10) (bytes ++ more) ≡ false
 no_line_feed test apart [] more each e = e
 no_line_feed test apart (b ∷ bytes) more each e =
     neither b _ (λ same. true≢false (sym (All-head (λ v. test v ≡ true) b bytes each) ∙ ap test same ∙ apart))
@@ -85,8 +95,10 @@ no_line held t =
     let method = t.1 in
     let target = t.2 in
     let after = method ++ 32 ∷ target in
-    let from : skip_newlines held ≡ after = ap skip_newlines (t.5 ∙ append_assoc (print_blank t.0) method (32 ∷ target)) ∙ skip_blank t.0 after ∙ stopped after (Stops_token method (32 ∷ target) t.3.0 t.3.1) in
-    let in_target : list_any (λ b. b == 10) target ≡ false = ap (list_any (λ b. b == 10)) (sym (append-nil target)) ∙ no_line_feed is_uri_byte refl target [] t.4 refl in
+    let from : skip_newlines held ≡ after = ap skip_newlines (t.5 ∙ append_assoc (print_blank t.0) method (32 ∷ target)) ∙ skip_blank t.0 after
+    ∙ stopped after (Stops_token method (32 ∷ target) t.3.0 t.3.1) in
+    let in_target : list_any (λ b. b == 10) target ≡ false = ap (list_any (λ b. b == 10)) (sym (append-nil target))
+    ∙ no_line_feed is_uri_byte refl target [] t.4 refl in
     ap (list_any (λ b. b == 10)) from ∙ no_line_feed is_token_byte no_line_feed_in_token method (32 ∷ target) t.3.1 in_target
 
 -- ---- bytes to which more can come

@@ -6,3 +6,4 @@ pub mod ResponseLemmas
 pub mod ScanLemmas
 pub mod LineLemmas
 pub mod CutLemmas
+pub use Rattle.exact_text.proofs.Growth.{growth}

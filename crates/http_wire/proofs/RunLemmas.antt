@@ -17,7 +17,8 @@ use Rattle.http_wire.specs.declared.stream.Next.TheVariants as next
 pub fit_append : (bytes : List ℕ) (h : RequestHead) (rest more : List ℕ) → IsFit bytes h rest → IsFit (bytes ++ more) h (rest ++ more)
 fit_append bytes h rest more fit = record { reads = ReadsRequest-append bytes h rest more fit.reads; fields = fit.fields; size = fit.size }
 
-begins_append : (bytes : List ℕ) (request : HttpRequest) (rest more : List ℕ) → BeginsWith bytes request rest → BeginsWith (bytes ++ more) request (rest ++ more)
+begins_append : (bytes : List ℕ) (request : HttpRequest) (rest more : List ℕ) → BeginsWith bytes request rest
+    → BeginsWith (bytes ++ more) request (rest ++ more)
 begins_append bytes request rest more b = record {
   head = b.head;
   body = b.body;
@@ -35,12 +36,14 @@ refused_append bytes more status (inl (inr large)) =
 
 goes_on_append : (closes : Bool) (answers : List Answer) (rest more : List ℕ) (stand : Stand)
     → (IsAnswered rest answers stand → IsAnswered (rest ++ more) answers (fed stand more))
-    → GoesOn closes (IsAnswered rest answers stand) answers stand → GoesOn closes (IsAnswered (rest ++ more) answers (fed stand more)) answers (fed stand more)
+    → GoesOn closes (IsAnswered rest answers stand) answers stand
+    → GoesOn closes (IsAnswered (rest ++ more) answers (fed stand more)) answers (fed stand more)
 goes_on_append true answers rest more stand go last = (last.0, ap (λ s. fed s more) last.1)
 goes_on_append false answers rest more stand go later = go later
 
 -- the answers given stay those of the stream when more bytes come
-pub answered_fed : (bytes : List ℕ) (answers : List Answer) (stand : Stand) (more : List ℕ) → IsAnswered bytes answers stand → IsAnswered (bytes ++ more) answers (fed stand more)
+pub answered_fed : (bytes : List ℕ) (answers : List Answer) (stand : Stand) (more : List ℕ) → IsAnswered bytes answers stand
+    → IsAnswered (bytes ++ more) answers (fed stand more)
 answered_fed bytes [] stand more e = ap (λ s. fed s more) e
 answered_fed bytes (whole request ∷ answers) stand more a =
     (a.0 ++ more, begins_append bytes request a.0 more a.1, goes_on_append request.closes answers a.0 more stand (answered_fed a.0 answers stand more) a.2)
@@ -49,7 +52,8 @@ answered_fed bytes (refused status ∷ answers) stand more a = (refused_append b
 pub feeds_on : (old : Stand) (piece : List ℕ) (new : Stand) → new ≡ fed old piece → FeedsOn old piece new
 feeds_on old piece new e = λ bytes answers a. rw e (answered_fed bytes answers old piece a)
 
-pub feeds_on_ok : {A E : Type 0} (result : Result A E) (old : Stand) (piece : List ℕ) (new : Stand) → OnOk result (new ≡ fed old piece) → OnOk result (FeedsOn old piece new)
+pub feeds_on_ok : {A E : Type 0} (result : Result A E) (old : Stand) (piece : List ℕ) (new : Stand) → OnOk result (new ≡ fed old piece)
+    → OnOk result (FeedsOn old piece new)
 feeds_on_ok (Ok v) old piece new e = feeds_on old piece new e
 feeds_on_ok (Err e) old piece new u = u
 
@@ -63,7 +67,8 @@ held_is held bytes e = cc
 
 goes_on_push : (closes : Bool) (answers : List Answer) (rest held : List ℕ) (answer : Answer) (stand : Stand)
     → (IsAnswered rest answers (holds held) → IsAnswered rest (answers ++ answer ∷ []) stand)
-    → GoesOn closes (IsAnswered rest answers (holds held)) answers (holds held) → GoesOn closes (IsAnswered rest (answers ++ answer ∷ []) stand) (answers ++ answer ∷ []) stand
+    → GoesOn closes (IsAnswered rest answers (holds held)) answers (holds held)
+    → GoesOn closes (IsAnswered rest (answers ++ answer ∷ []) stand) (answers ++ answer ∷ []) stand
 goes_on_push true answers rest held answer stand go last = absurd (ended_holds held (sym last.1))
 goes_on_push false answers rest held answer stand go later = go later
 
@@ -74,11 +79,13 @@ answered_push bytes (whole request ∷ answers) held answer stand a step =
     (a.0, a.1, goes_on_push request.closes answers a.0 held answer stand (λ b. answered_push a.0 answers held answer stand b step) a.2)
 answered_push bytes (refused status ∷ answers) held answer stand a step = absurd (ended_holds held (sym a.2))
 
-behind_alone : (closes : Bool) (rest : List ℕ) (stand : Stand) → stand ≡ (if closes then ended else holds rest) → GoesOn closes (IsAnswered rest [] stand) [] stand
+behind_alone : (closes : Bool) (rest : List ℕ) (stand : Stand) → stand ≡ (if closes then ended else holds rest)
+    → GoesOn closes (IsAnswered rest [] stand) [] stand
 behind_alone true rest stand e = (refl, e)
 behind_alone false rest stand e = e
 
-same_answers : (bytes : List ℕ) (answers : List Answer) (old new : Stand) → IsAnswered bytes answers old → new ≡ old → IsAnswered bytes (answers ++ []) new
+same_answers : (bytes : List ℕ) (answers : List Answer) (old new : Stand) → IsAnswered bytes answers old → new ≡ old
+    → IsAnswered bytes (answers ++ []) new
 same_answers bytes answers old new a e = rw (e, append-nil answers) a
 
 -- a step gives the next answer to all the bytes

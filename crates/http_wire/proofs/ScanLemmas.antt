@@ -24,9 +24,11 @@ use Rattle.http_wire.proofs.FoundLemmas.{has_head_append}
 
 -- ---- a search that goes on
 
-pub line_append : (begun : Bool) (xs ys : List ℕ) → has_line_from begun (xs ++ ys) ≡ (has_line_from begun xs || has_line_from (is_begun_behind begun xs) ys)
+pub line_append : (begun : Bool) (xs ys : List ℕ)
+    → has_line_from begun (xs ++ ys) ≡ (has_line_from begun xs || has_line_from (is_begun_behind begun xs) ys)
 line_append begun [] ys = refl
-line_append begun (b ∷ xs) ys = ap (λ t. (begun && b == 10) || t) (line_append (begun || not (is_newline b)) xs ys) ∙ sym (or_assoc (begun && b == 10) _ _)
+line_append begun (b ∷ xs) ys = ap (λ t. (begun && b == 10) || t) (line_append (begun || not (is_newline b)) xs ys)
+    ∙ sym (or_assoc (begun && b == 10) _ _)
 
 pub begun_append : (begun : Bool) (xs ys : List ℕ) → is_begun_behind begun (xs ++ ys) ≡ is_begun_behind (is_begun_behind begun xs) ys
 begun_append begun [] ys = refl
@@ -38,7 +40,8 @@ line_begun : (bytes : List ℕ) → has_line_from true bytes ≡ list_any (λ b.
 line_begun [] = refl
 line_begun (b ∷ bytes) = ap (λ t. (b == 10) || t) (line_begun bytes)
 
-line_start : (b : ℕ) (bytes : List ℕ) (newline : Bool) → is_newline b ≡ newline → has_line bytes ≡ has_line_from false bytes → has_line (b ∷ bytes) ≡ has_line_from (not newline) bytes
+line_start : (b : ℕ) (bytes : List ℕ) (newline : Bool) → is_newline b ≡ newline → has_line bytes ≡ has_line_from false bytes
+    → has_line (b ∷ bytes) ≡ has_line_from (not newline) bytes
 line_start b bytes true is same = rw is same
 line_start b bytes false is same = rw is (grind (is, line_begun bytes, nat_tests, arith))
 
@@ -91,7 +94,8 @@ pub line_of_part : (bytes : List ℕ) (part : Part) → HasPart bytes part → h
 unfolding lines_text
 line_of_part bytes part p =
     let h = p.head in
-    ap has_line (p.bytes_are ∙ regroup (print_blank h.blank) h.method h.target (print_version h.minor) (print_end h.line_end) (flat_map print_field h.fields) p.line)
+    ap has_line (p.bytes_are ∙ regroup (print_blank h.blank) h.method h.target (print_version h.minor) (print_end h.line_end)
+    (flat_map print_field h.fields) p.line)
     ∙ line_in_head h (flat_map print_field h.fields ++ p.line) p.valid
   where
     regroup : (a b c d e f g : List ℕ)

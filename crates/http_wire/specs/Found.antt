@@ -60,4 +60,5 @@ IsKnown bytes (Whole head) = HasHead bytes head
 abbrev pub IsRequestOf : List ℕ → Head → Option HttpRequest → Type 0
 IsRequestOf bytes head None = IsShort bytes
 IsRequestOf bytes head (Some request) =
-    BeginsWith bytes request (drop (head.len + head.body) bytes) × (request.closes ≡ head.closes) × (head.len + head.body ≤ length bytes)
+    BeginsWith bytes request (drop (head.len + head.body) bytes) × (request.closes ≡ head.closes)
+    × (head.len + head.body ≤ length bytes)

@@ -1,7 +1,9 @@
--- What the bytes that are held begin with, before the head of a request is taken from them. What a head is, and which bytes it
--- has, is httparse's grammar of RFC 9112, sections 2 to 5, in which empty lines may come first and a line may end in LF alone.
--- (The limits, and when a head is refused, are this project's own.)
-use Rattle.std.specs.Prelude.{◌≡◌, ℕ, ◌<◌, ◌≤◌, ◌⊎◌, Bool, List, [], ◌∷◌, ◌++◌, length, take, ◌==◌, IsTrue, if◌then◌else◌}
+-- What the bytes that are held begin with, before the head of a request is taken from them. What a
+-- head is, and which bytes it has, is httparse's grammar of RFC 9112, sections 2 to 5, in which
+-- empty lines may come first and a line may end in LF alone. (The limits, and when a head is
+-- refused, are this project's own.)
+use Rattle.std.specs.Prelude.{◌≡◌, ℕ, ◌<◌, ◌≤◌, ◌⊎◌, Bool, List, [], ◌∷◌}
+use Rattle.std.specs.Prelude.{◌++◌, length, take, ◌==◌, IsTrue, if◌then◌else◌}
 use Rattle.std.specs.List.{list_any}
 use Rattle.httparse.specs.Grammar.{RequestHead, ReadsRequest, HasNoRequest, print_request}
 use Rattle.httparse.specs.Pieces.{is_newline}
@@ -47,7 +49,8 @@ window bytes = take MOST_HEAD bytes
 abbrev pub IsAwaited : List ℕ → Type 0
 IsAwaited bytes = (length bytes < MOST_HEAD) × IsOpen bytes
 
--- The statuses with which a head is refused. A doubtful head may be refused at any time, or be awaited while it is open.
+-- The statuses with which a head is refused. A doubtful head may be refused at any time, or be
+-- awaited while it is open.
 abbrev pub IsRefusedHead : List ℕ → ℕ → Type 0
 IsRefusedHead bytes status =
     ((status ≡ BAD_REQUEST) × IsDoubtful bytes)

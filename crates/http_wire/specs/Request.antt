@@ -34,4 +34,9 @@ closes_in h = (h.minor == 0) || list_any says_close (map name_and_value h.fields
 
 -- the request of a head and a body
 abbrev pub request_in : RequestHead → List ℕ → HttpRequest
-request_in h body = record { method = method_in h.method; path = path_in h.target; body = body; closes = closes_in h }
+request_in h body = record {
+  method = method_in h.method;
+  path = path_in h.target;
+  body = body;
+  closes = closes_in h;
+}

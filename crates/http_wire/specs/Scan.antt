@@ -1,11 +1,13 @@
 -- The search for the end of the first line, from a place on. (This project's own.)
-use Rattle.std.specs.Prelude.{◌≡◌, ℕ, ◌≤◌, Bool, false, ◌||◌, ◌&&◌, ◌==◌, not, List, [], ◌∷◌, length, take}
+use Rattle.std.specs.Prelude.{◌≡◌, ℕ, ◌≤◌, Bool, false, ◌||◌, ◌&&◌}
+use Rattle.std.specs.Prelude.{◌==◌, not, List, [], ◌∷◌, length, take}
 use Rattle.httparse.specs.Pieces.{is_newline}
 
 -- a line that has begun or not ends in the bytes
 abbrev pub has_line_from : Bool → List ℕ → Bool
 has_line_from begun [] = false
-has_line_from begun (b ∷ bytes) = (begun && b == 10) || has_line_from (begun || not (is_newline b)) bytes
+has_line_from begun (b ∷ bytes) =
+    (begun && b == 10) || has_line_from (begun || not (is_newline b)) bytes
 
 -- the line has begun behind the bytes
 abbrev pub is_begun_behind : Bool → List ℕ → Bool

@@ -1,6 +1,7 @@
--- The answers to the bytes of a client, whatever the pieces in which they came. (RFC 9112, section 9.3. What is refused, and that
--- nothing is read behind it, is this project's own.)
-use Rattle.std.specs.Prelude.{◌≡◌, ℕ, ◌<◌, ◌⊎◌, Bool, true, false, List, [], ◌∷◌, ◌++◌, length, if◌then◌else◌}
+-- The answers to the bytes of a client, whatever the pieces in which they came. (RFC 9112, section
+-- 9.3. What is refused, and that nothing is read behind it, is this project's own.)
+use Rattle.std.specs.Prelude.{◌≡◌, ℕ, ◌<◌, ◌⊎◌, Bool, true, false, List}
+use Rattle.std.specs.Prelude.{[], ◌∷◌, ◌++◌, length, if◌then◌else◌}
 use Rattle.httparse.specs.Grammar.{RequestHead}
 use Rattle.http_wire.specs.Head.{IsFit, IsAwaited, IsRefusedHead}
 use Rattle.http_wire.specs.Request.{framing_in, request_in}
@@ -19,11 +20,13 @@ pub record BeginsWith (bytes : List ℕ) (request : HttpRequest) (rest : List �
 
 -- the bytes begin with a head, and a part of its body is missing
 abbrev pub IsShort : List ℕ → Type 0
-IsShort bytes = (h : RequestHead) × (rest : List ℕ) × (n : ℕ) × IsFit bytes h rest × (framing_in h ≡ framing.Body n) × (length rest < n)
+IsShort bytes = (h : RequestHead) × (rest : List ℕ) × (n : ℕ) × IsFit bytes h rest
+    × (framing_in h ≡ framing.Body n) × (length rest < n)
 
 -- the bytes begin with a head whose fields are refused
 abbrev pub IsRefusedBody : List ℕ → ℕ → Type 0
-IsRefusedBody bytes status = (h : RequestHead) × (rest : List ℕ) × IsFit bytes h rest × (framing_in h ≡ framing.Refused status)
+IsRefusedBody bytes status = (h : RequestHead) × (rest : List ℕ) × IsFit bytes h rest
+    × (framing_in h ≡ framing.Refused status)
 
 -- there is nothing to answer before more bytes come
 abbrev pub IsWaiting : List ℕ → Type 0
@@ -50,7 +53,8 @@ fed ended piece = ended
 -- one step of a stream: where it stood, the answer, where it stands
 abbrev pub Steps : Stand → Next → Stand → Type 0
 Steps (holds bytes) next.Need to = IsWaiting bytes × (to ≡ holds bytes)
-Steps (holds bytes) (next.Request request) to = (rest : List ℕ) × BeginsWith bytes request rest × (to ≡ behind request rest)
+Steps (holds bytes) (next.Request request) to = (rest : List ℕ) × BeginsWith bytes request rest
+    × (to ≡ behind request rest)
 Steps (holds bytes) (next.Bad status) to = IsRefused bytes status × (to ≡ ended)
 Steps (holds bytes) next.Ended to = ⊥
 Steps ended next.Need to = ⊥
@@ -58,7 +62,8 @@ Steps ended (next.Request request) to = ⊥
 Steps ended (next.Bad status) to = ⊥
 Steps ended next.Ended to = to ≡ ended
 
--- what a client is answered: a request of its own that has come whole, or a status with which it is refused
+-- what a client is answered: a request of its own that has come whole, or a status with which it is
+-- refused
 pub data Answer : Type 0 where
   whole : HttpRequest → Answer
   refused : ℕ → Answer
@@ -75,18 +80,22 @@ abbrev pub GoesOn : Bool → Type 0 → List Answer → Stand → Type 0
 GoesOn true Later answers stand = (answers ≡ []) × (stand ≡ ended)
 GoesOn false Later answers stand = Later
 
--- the answers to all the bytes so far, and where they leave the stream: each request, one behind the other, up to the first that
--- closes, or to what is refused
+-- the answers to all the bytes so far, and where they leave the stream: each request, one behind
+-- the other, up to the first that closes, or to what is refused
 abbrev pub IsAnswered : List ℕ → List Answer → Stand → Type 0
 IsAnswered bytes [] stand = stand ≡ holds bytes
 IsAnswered bytes (whole request ∷ answers) stand =
-    (rest : List ℕ) × BeginsWith bytes request rest × GoesOn request.closes (IsAnswered rest answers stand) answers stand
-IsAnswered bytes (refused status ∷ answers) stand = IsRefused bytes status × (answers ≡ []) × (stand ≡ ended)
+    (rest : List ℕ) × BeginsWith bytes request rest
+    × GoesOn request.closes (IsAnswered rest answers stand) answers stand
+IsAnswered bytes (refused status ∷ answers) stand = IsRefused bytes status × (answers ≡ [])
+    × (stand ≡ ended)
 
 -- whatever came and was answered before, the same is answered to it with a piece behind it
 abbrev pub FeedsOn : Stand → List ℕ → Stand → Type 0
-FeedsOn old piece new = (bytes : List ℕ) (answers : List Answer) → IsAnswered bytes answers old → IsAnswered (bytes ++ piece) answers new
+FeedsOn old piece new = (bytes : List ℕ) (answers : List Answer) → IsAnswered bytes answers old
+    → IsAnswered (bytes ++ piece) answers new
 
 -- whatever came and was answered before, what was found is the next answer to it
 abbrev pub AnswersOn : Stand → Next → Stand → Type 0
-AnswersOn old found new = (bytes : List ℕ) (answers : List Answer) → IsAnswered bytes answers old → IsAnswered bytes (answers ++ answers_of found) new
+AnswersOn old found new = (bytes : List ℕ) (answers : List Answer) → IsAnswered bytes answers old
+    → IsAnswered bytes (answers ++ answers_of found) new

@@ -29,12 +29,14 @@ enum Values {
     Several,
 }
 
+/// Whether two names of fields are alike: case doesn't count.
 fn is_same_name(name: &[u8], other: &[u8]) -> bool
     ensures { result ≡ str_eq_ignore_ascii_case name.now other.now }
 {
     name.eq_ignore_ascii_case(other)
 }
 
+/// Whether there is a field of this name.
 fn has_field(bytes: &[u8], spans: &[HeaderSpan], name: &[u8]) -> bool
     requires { All (IsHeaderWithin (length bytes.now)) spans.now }
     ensures { result ≡ list_any (is_named name.now) (map (header_bytes bytes.now) spans.now) }
@@ -47,9 +49,11 @@ fn has_field(bytes: &[u8], spans: &[HeaderSpan], name: &[u8]) -> bool
     false
 }
 
+/// The values of the fields of this name: none, the only one, or several.
 fn find_values(bytes: &[u8], spans: &[HeaderSpan], name: &[u8]) -> Values
     requires { All (IsHeaderWithin (length bytes.now)) spans.now }
-    ensures { AreValues bytes.now (values_of name.now (map (header_bytes bytes.now) spans.now)) result }
+    ensures { AreValues bytes.now
+        (values_of name.now (map (header_bytes bytes.now) spans.now)) result }
 {
     let mut values = Values::Missing;
     for span in spans {
@@ -63,6 +67,7 @@ fn find_values(bytes: &[u8], spans: &[HeaderSpan], name: &[u8]) -> Values
     values
 }
 
+/// Whether there are digits alone.
 fn are_digits(value: &[u8]) -> bool
     ensures { result ≡ list_all is_ascii_digit value.now }
 {

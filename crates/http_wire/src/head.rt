@@ -65,9 +65,12 @@ fn path_in(bytes: &[u8], target: Span) -> Span
 fn take_up(bytes: &[u8], spans: &[HeaderSpan], parts: RequestSpans) -> Result<Head, u16>
     requires { IsRequestWithin bytes.now spans.now parts }
     ensures len { IfOk result (λ head. head.len ≡ parts.len) }
-    ensures head { IfOk result (λ head. EachHeadAt bytes.now spans.now parts (λ h. IsOfHead h head)) }
-    ensures path { IfOk result (λ head. EachHeadAt bytes.now spans.now parts (λ h. HasPath bytes.now h head)) }
-    ensures refused { IfErr result (λ s. EachHeadAt bytes.now spans.now parts (λ h. framing_in h ≡ Refused s)) }
+    ensures head { IfOk result
+        (λ head. EachHeadAt bytes.now spans.now parts (λ h. IsOfHead h head)) }
+    ensures path { IfOk result
+        (λ head. EachHeadAt bytes.now spans.now parts (λ h. HasPath bytes.now h head)) }
+    ensures refused { IfErr result
+        (λ s. EachHeadAt bytes.now spans.now parts (λ h. framing_in h ≡ Refused s)) }
 {
     let fields = &spans[..parts.headers];
     let method = Method::of_name(parts.method.of(bytes));

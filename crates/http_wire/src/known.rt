@@ -44,8 +44,8 @@ impl Known {
         begun: false,
     };
 
-    /// What is known once more bytes came, where these can't end a head nor make it one that can't come; `None`
-    /// where the head is to be read.
+    /// What is known once more bytes came, where these can't end a head nor make it one that can't
+    /// come; `None` where the head is to be read.
     fn go_on(self, bytes: &[u8]) -> Option<Known>
         requires { IsKnown bytes.now self }
         ensures open { IfSome result (λ known. IsOpen bytes.now) }
@@ -88,8 +88,8 @@ impl Known {
         }
     }
 
-    /// What the bytes begin with. A head is read where a line has ended, or where a byte is none of a field;
-    /// other bytes are looked at once.
+    /// What the bytes begin with. A head is read where a line has ended, or where a byte is none of
+    /// a field; other bytes are looked at once.
     pub(crate) fn find_front(&mut self, bytes: &[u8]) -> Front
         requires { IsKnown bytes.now self.old }
         ensures front { IsFront bytes.now result }

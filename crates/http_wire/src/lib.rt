@@ -1,5 +1,5 @@
-//! The byte stream of an HTTP/1.1 client: its requests, whatever the pieces in which its bytes come, and
-//! the responses that are written to it (RFC 9112).
+//! The byte stream of an HTTP/1.1 client: its requests, whatever the pieces in which its bytes
+//! come, and the responses that are written to it (RFC 9112).
 #![tactic(auto)]
 
 mod fields;

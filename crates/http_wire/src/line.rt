@@ -19,7 +19,8 @@ pub enum Part {
 }
 
 impl Part {
-    /// The part to which a byte comes, and `None` where that is to be found out by reading the head.
+    /// The part to which a byte comes, and `None` where that is to be found out by reading the
+    /// head.
     fn with_byte(self, byte: u8) -> Option<Part>
         ensures { IfSome result (λ later. Extends self (byte ∷ []) later) }
     {

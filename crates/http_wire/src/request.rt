@@ -41,8 +41,8 @@ impl TryCopy for Method {
     }
 }
 
-/// A whole request: its method, its target up to the first `?`, its body, and whether it is the last one
-/// of its connection.
+/// A whole request: its method, its target up to the first `?`, its body, and whether it is the
+/// last one of its connection.
 #[derive(Debug, Drop)]
 pub struct HttpRequest {
     pub method: Method,

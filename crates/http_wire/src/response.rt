@@ -13,7 +13,8 @@ use itoa::Buffer;
 /// What a response says besides its status and its body.
 #[derive(Clone, Copy, Debug, PartialEq, Eq)]
 pub enum Extra {
-    Plain,
+    /// Nothing.
+    Nothing,
     /// What a browser may ask for, before it asks (CORS). There is no body.
     Preflight,
     /// The resource can be read.
@@ -30,6 +31,7 @@ impl TryCopy for Extra {
     }
 }
 
+/// The reason phrase of a status.
 fn reason(status: u16) -> &'static str
     requires { IsStatus status }
     ensures { result.now ≡ phrase_in reasons status }
@@ -50,13 +52,14 @@ fn reason(status: u16) -> &'static str
     }
 }
 
+/// Whether the response has a body.
 fn has_body(status: u16, extra: Extra) -> bool
     ensures { result ≡ has_body status extra }
 {
     status != status::NO_CONTENT && extra != Extra::Preflight
 }
 
-#[tactic(auto, using(exact_text::proofs::Growth::growth), unfolding(crate::specs::Response::status_line))]
+#[tactic(auto, using(crate::proofs::growth), unfolding(crate::specs::Response::status_line))]
 fn append_status_line(status: u16, out: &mut Vec<u8>) -> Result<(), NoMemory>
     requires { IsStatus status }
     ensures ok { OnOk result (out.new.items ≡ out.old.items ++ status_line status) }
@@ -71,7 +74,7 @@ fn append_status_line(status: u16, out: &mut Vec<u8>) -> Result<(), NoMemory>
 }
 
 /// That the body is JSON, and how long it is.
-#[tactic(auto, using(exact_text::proofs::Growth::growth), unfolding(crate::specs::Response::json_lines))]
+#[tactic(auto, using(crate::proofs::growth), unfolding(crate::specs::Response::json_lines))]
 fn append_json_lines(len: usize, out: &mut Vec<u8>) -> Result<(), NoMemory>
     ensures ok { OnOk result (out.new.items ≡ out.old.items ++ json_lines len) }
     ensures grows { Grows out.old.items out.new.items }
@@ -82,7 +85,7 @@ fn append_json_lines(len: usize, out: &mut Vec<u8>) -> Result<(), NoMemory>
     Ok(())
 }
 
-#[tactic(auto, using(exact_text::proofs::Growth::growth), unfolding(crate::specs::Response::content_lines))]
+#[tactic(auto, using(crate::proofs::growth), unfolding(crate::specs::Response::content_lines))]
 fn append_content(status: u16, extra: Extra, len: usize, out: &mut Vec<u8>) -> Result<(), NoMemory>
     ensures ok { OnOk result (out.new.items ≡ out.old.items ++ content_lines status extra len) }
     ensures grows { Grows out.old.items out.new.items }
@@ -102,7 +105,7 @@ impl Extra {
         ensures { result.now ≡ extra_lines self }
     {
         match self {
-            Extra::Plain => "",
+            Extra::Nothing => "",
             Extra::Preflight => {
                 "Access-Control-Allow-Methods: GET, POST, DELETE, OPTIONS\r\n\
                 Access-Control-Allow-Headers: Content-Type, Accept\r\n\
@@ -115,6 +118,7 @@ impl Extra {
     }
 }
 
+/// The line that says whether the connection stays.
 #[tactic(auto, unfolding(crate::specs::Response::connection_line))]
 fn connection(status: u16, closes: bool) -> &'static str
     ensures { result.now ≡ connection_line status closes }
@@ -126,7 +130,7 @@ fn connection(status: u16, closes: bool) -> &'static str
     }
 }
 
-#[tactic(auto, using(exact_text::proofs::Growth::growth), unfolding(crate::specs::Response::response_head))]
+#[tactic(auto, using(crate::proofs::growth), unfolding(crate::specs::Response::response_head))]
 fn append_head(
     status: u16,
     extra: Extra,
@@ -135,7 +139,8 @@ fn append_head(
     out: &mut Vec<u8>,
 ) -> Result<(), NoMemory>
     requires { IsStatus status }
-    ensures ok { OnOk result (out.new.items ≡ out.old.items ++ response_head status extra closes len) }
+    ensures ok { OnOk result
+        (out.new.items ≡ out.old.items ++ response_head status extra closes len) }
     ensures grows { Grows out.old.items out.new.items }
 {
     append_status_line(status, out)?;
@@ -147,7 +152,7 @@ fn append_head(
     Ok(())
 }
 
-#[tactic(auto, using(exact_text::proofs::Growth::growth))]
+#[tactic(auto, using(crate::proofs::growth))]
 fn append_response(
     status: u16,
     extra: Extra,
@@ -156,7 +161,8 @@ fn append_response(
     out: &mut Vec<u8>,
 ) -> Result<(), NoMemory>
     requires { IsStatus status }
-    ensures ok { OnOk result (out.new.items ≡ out.old.items ++ response_text status extra closes body.now) }
+    ensures ok { OnOk result
+        (out.new.items ≡ out.old.items ++ response_text status extra closes body.now) }
     ensures grows { Grows out.old.items out.new.items }
 {
     append_head(status, extra, closes, body.len(), out)?;
@@ -166,9 +172,9 @@ fn append_response(
     Ok(())
 }
 
-/// Appends a response of a status that is one of [`crate::status`]. Its body is JSON; with the status 204
-/// and for a preflight there is none, whatever is given. The connection is told to end where `closes` says
-/// so, and with the status 503. Want of memory leaves `out` as it was.
+/// Appends a response of a status that is one of [`crate::status`]. Its body is JSON; with the
+/// status 204 and for a preflight there is none, whatever is given. The connection is told to end
+/// where `closes` says so, and with the status 503. Want of memory leaves `out` as it was.
 pub fn write_response(
     status: u16,
     extra: Extra,
@@ -177,7 +183,8 @@ pub fn write_response(
     out: &mut Vec<u8>,
 ) -> Result<(), NoMemory>
     requires { IsStatus status }
-    ensures ok { OnOk result (out.new.items ≡ out.old.items ++ response_text status extra closes body.now) }
+    ensures ok { OnOk result
+        (out.new.items ≡ out.old.items ++ response_text status extra closes body.now) }
     ensures err { OnErr result (out.new.items ≡ out.old.items) }
 {
     let start = out.len();

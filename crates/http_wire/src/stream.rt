@@ -35,8 +35,8 @@ impl TryCopy for Next {
     }
 }
 
-/// The stream of one client. Contracts see where it stands: the bytes that no answer has taken, or its
-/// end.
+/// The stream of one client. Contracts see where it stands: the bytes that no answer has taken, or
+/// its end.
 #[derive(Drop)]
 pub struct Stream {
     alloc: Global,
@@ -62,7 +62,7 @@ impl Stream {
     /// The stream of a new client.
     pub fn new(alloc: Global) -> Result<Stream, NoMemory>
         ensures holds { IfOk result (λ stream. stream ≡ holds []) }
-        ensures run { IfOk result (λ stream. IsAnswered [] [] stream) }
+        ensures whole { IfOk result (λ stream. IsAnswered [] [] stream) }
     {
         Ok(Stream {
             alloc,
@@ -72,12 +72,12 @@ impl Stream {
         })
     }
 
-    /// Takes a piece of the client's bytes, which is not kept once the stream has ended. Want of memory
-    /// leaves the stream as it was.
+    /// Takes a piece of the client's bytes, which is not kept once the stream has ended. Want of
+    /// memory leaves the stream as it was.
     pub fn feed(&mut self, piece: &[u8]) -> Result<(), NoMemory>
         ensures ok { OnOk result (self.new ≡ fed self.old piece.now) }
         ensures err { OnErr result (self.new ≡ self.old) }
-        ensures run { OnOk result (FeedsOn self.old piece.now self.new) }
+        ensures whole { OnOk result (FeedsOn self.old piece.now self.new) }
     {
         if self.closed {
             return Ok(());
@@ -85,12 +85,12 @@ impl Stream {
         self.held.append(piece)
     }
 
-    /// The next answer to the bytes. Want of memory leaves the stream as it was, so the call can be made
-    /// again.
+    /// The next answer to the bytes. Want of memory leaves the stream as it was, so the call can be
+    /// made again.
     pub fn next(&mut self) -> Result<Next, NoMemory>
         ensures ok { IfOk result (λ next. Steps self.old next self.new) }
         ensures err { OnErr result (self.new ≡ self.old) }
-        ensures run { IfOk result (λ next. AnswersOn self.old next self.new) }
+        ensures whole { IfOk result (λ next. AnswersOn self.old next self.new) }
     {
         if self.closed {
             return Ok(Next::Ended);

@@ -187,7 +187,8 @@ fn longest_body(rt: HostRuntime) -> Result<(), Fail> {
     Ok(())
 }
 
-/// The first answer but `Need` to bytes that come one by one, where it comes at the last of them; else 4.
+/// The first answer but `Need` to bytes that come one by one, where it comes at the last of them;
+/// else 4.
 fn last_answer(alloc: Global, text: &str) -> Result<u16, NoMemory> {
     let mut stream = Stream::new(alloc)?;
     for (at, byte) in text.bytes().enumerate() {
@@ -298,7 +299,7 @@ fn responses_with_body(rt: HostRuntime) -> Result<(), Fail> {
     check_response(
         &rt,
         alloc,
-        (200, Extra::Plain, false, "[\"x-nmos/\"]"),
+        (200, Extra::Nothing, false, "[\"x-nmos/\"]"),
         "HTTP/1.1 200 OK\r\n\
             Content-Type: application/json\r\n\
             Content-Length: 11\r\n\
@@ -325,7 +326,7 @@ fn responses_with_body(rt: HostRuntime) -> Result<(), Fail> {
         alloc,
         (
             503,
-            Extra::Plain,
+            Extra::Nothing,
             false,
             "{\"code\":503,\"debug\":null,\"error\":\"no memory\"}",
         ),
@@ -346,7 +347,7 @@ fn responses_without_body(rt: HostRuntime) -> Result<(), Fail> {
     check_response(
         &rt,
         alloc,
-        (204, Extra::Plain, false, "none"),
+        (204, Extra::Nothing, false, "none"),
         "HTTP/1.1 204 No Content\r\n\
             Access-Control-Allow-Origin: *\r\n\
             Connection: keep-alive\r\n\
@@ -396,7 +397,7 @@ fn check_reason(rt: &impl Abort, alloc: Global, status: u16, want: &str) -> Resu
     requires { IsStatus status }
 {
     let mut out = Vec::new(alloc);
-    write_response(status, Extra::Plain, false, b"", &mut out)?;
+    write_response(status, Extra::Nothing, false, b"", &mut out)?;
     assert!(rt; out.as_slice().starts_with(want.as_bytes()), "{want}");
     Ok(())
 }

@@ -1,10 +1,13 @@
 -- The blocks that words show.
-use Rattle.std.proofs.Common.{◌⊎◌, ⊎_elim, inl, inr, cond, ◌≡◌, ℕ, zero, suc, ◌+◌, ◌<◌, Bool, true, false, List, [], ◌∷◌, length, map, get_or, refl, sym, ap, ◌∙◌, arith, true≢false, add-zero}
-use Rattle.std.specs.Prelude.{Option, Some, None, is_some, ℤ, pos}
+use Rattle.std.proofs.Common.{◌⊎◌, ⊎_elim, inl, inr, cond, ◌≡◌, ℕ, suc, ◌+◌, ◌<◌, Bool, true, false}
+use Rattle.std.proofs.Common.{List, [], ◌∷◌, length, map, get_or, refl, sym, ap, ◌∙◌, arith, true≢false, add-zero}
+use Rattle.std.specs.Prelude.{Some, None, ℤ, pos}
 use Rattle.std.specs.List.{range_with_len}
 use Rattle.std.proofs.lemmas.Bool.Decides.{nat_tests}
 use mathlib.Core.Logic.{dite}
 use native.Mathlib.Decide.{ℕ_discrete}
+use Rattle.list_laws.proofs.Ranges.{map_same_below}
+use Rattle.std.proofs.lemmas.Option.{none-some}
 use Rattle.input_rule.proofs.Steps.{first_zero}
 use Rattle.input_rule.specs.Laws.{BlocksSettle, BlocksStay, StartsEmpty}
 use Rattle.input_rule.specs.declared.view.Shape.{Shape}
@@ -20,16 +23,15 @@ pub inside_is : (shape : Shape) (words : List ℕ) (tick : ℕ) → is_present s
 inside_is shape words tick there = ((grind (arith, nat_tests), grind (arith, nat_tests)), grind (arith, nat_tests))
 
 -- lists that are told place by place
-pub spells : (f : ℕ → ℤ) (xs : List ℤ) (from : ℕ) → ((p : ℕ) → p < length xs → f (from + p) ≡ get_or xs p (pos 0)) → map f (range_with_len from (length xs)) ≡ xs
+pub spells : (f : ℕ → ℤ) (xs : List ℤ) (from : ℕ) → ((p : ℕ) → p < length xs → f (from + p) ≡ get_or xs p (pos 0))
+    → map f (range_with_len from (length xs)) ≡ xs
 spells f [] from same = refl
-spells f (x ∷ xs) from same = λ k. (ap f (sym (add-zero from)) ∙ same 0 (omega arith)) k ∷ spells f xs (from + 1) (λ p lt. ap f (omega arith) ∙ same (suc p) (omega arith)) k
-
-pub same_map : (f g : ℕ → ℤ) (from n : ℕ) → ((p : ℕ) → p < n → f (from + p) ≡ g (from + p)) → map f (range_with_len from n) ≡ map g (range_with_len from n)
-same_map f g from zero same = refl
-same_map f g from (suc n) same = λ k. (ap f (sym (add-zero from)) ∙ (same 0 (omega arith) ∙ ap g (add-zero from))) k ∷ same_map f g (from + 1) n (λ p lt. let at : from + 1 + p ≡ from + suc p = omega arith in ap f at ∙ (same (suc p) (omega arith) ∙ ap g (sym at))) k
+spells f (x ∷ xs) from same = λ k. (ap f (sym (add-zero from)) ∙ same 0 (omega arith)) k ∷ spells f xs (from + 1)
+    (λ p lt. ap f (omega arith) ∙ same (suc p) (omega arith)) k
 
 -- a block that is there
-pub block_there : (shape : Shape) (words : List ℕ) (tick : ℕ) → HasTick shape tick → IsPresent shape words tick → block_at shape words tick ≡ Some (samples_at shape words tick)
+pub block_there : (shape : Shape) (words : List ℕ) (tick : ℕ) → HasTick shape tick → IsPresent shape words tick
+    → block_at shape words tick ≡ Some (samples_at shape words tick)
 block_there shape words tick inside there = ap (λ (b : Bool). cond b (Some (samples_at shape words tick)) None) (present_is shape words tick inside there)
 
 -- a block that isn't there
@@ -37,25 +39,29 @@ pub block_gone : (shape : Shape) (words : List ℕ) (tick : ℕ) → IsAbsent sh
 block_gone shape words tick gone = ap (λ (b : Bool). cond b (Some (samples_at shape words tick)) None) (absent_is shape words tick gone)
 
 -- each tick has a block that is there, or none
-pub block_cases : (shape : Shape) (words : List ℕ) (tick : ℕ) → ((HasTick shape tick × IsPresent shape words tick) × (block_at shape words tick ≡ Some (samples_at shape words tick))) ⊎ ((is_present shape words tick ≡ false) × (block_at shape words tick ≡ None))
+pub block_cases : (shape : Shape) (words : List ℕ) (tick : ℕ)
+    → ((HasTick shape tick × IsPresent shape words tick) × (block_at shape words tick ≡ Some (samples_at shape words tick)))
+    ⊎ ((is_present shape words tick ≡ false) × (block_at shape words tick ≡ None))
 block_cases shape words tick = by (is_present shape words tick) refl
   where
-    by : (b : Bool) → is_present shape words tick ≡ b → ((HasTick shape tick × IsPresent shape words tick) × (block_at shape words tick ≡ Some (samples_at shape words tick))) ⊎ ((is_present shape words tick ≡ false) × (block_at shape words tick ≡ None))
+    by : (b : Bool) → is_present shape words tick ≡ b
+        → ((HasTick shape tick × IsPresent shape words tick) × (block_at shape words tick ≡ Some (samples_at shape words tick)))
+        ⊎ ((is_present shape words tick ≡ false) × (block_at shape words tick ≡ None))
     by true e = inl (inside_is shape words tick e, ap (λ (b : Bool). cond b (Some (samples_at shape words tick)) None) e)
     by false e = inr (e, ap (λ (b : Bool). cond b (Some (samples_at shape words tick)) None) e)
 
-none_some : (block : List ℤ) → None ≡ Some block → ⊥
-none_some block e = true≢false (sym (ap (λ (o : Option (List ℤ)). is_some o) e))
-
 -- a block that is there stays as it is
-pub block_stays : (shape : Shape) (before after : List ℕ) → AreLater shape before after → (tick : ℕ) → HasTick shape tick → IsPresent shape before tick → block_at shape after tick ≡ block_at shape before tick
+pub block_stays : (shape : Shape) (before after : List ℕ) → AreLater shape before after → (tick : ℕ) → HasTick shape tick
+    → IsPresent shape before tick → block_at shape after tick ≡ block_at shape before tick
 block_stays shape before after later tick inside there =
     block_there shape after tick inside (later.stays tick inside there)
-    ∙ (ap (λ (xs : List ℤ). Some xs) (same_map (sample_at shape after tick) (sample_at shape before tick) 0 (block_len shape) (λ p lt. later.same tick (0 + p) inside (omega arith) there)) ∙ sym (block_there shape before tick inside there))
+    ∙ (ap (λ (xs : List ℤ). Some xs) (map_same_below (sample_at shape after tick) (sample_at shape before tick) (block_len shape)
+    (λ p lt. later.same tick p inside lt there)) ∙ sym (block_there shape before tick inside there))
 
 pub blocks_stay : BlocksStay
 blocks_stay shape before after later tick block e =
-    ⊎_elim (λ here. block_stays shape before after later tick here.0.0 here.0.1 ∙ e) (λ gone. absurd (none_some block (sym gone.1 ∙ e))) (block_cases shape before tick)
+    ⊎_elim (λ here. block_stays shape before after later tick here.0.0 here.0.1 ∙ e) (λ gone. absurd (none-some block (sym gone.1 ∙ e)))
+    (block_cases shape before tick)
 
 pub blocks_settle : BlocksSettle
 blocks_settle shape before after shown later tick late =

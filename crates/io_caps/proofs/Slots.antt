@@ -4,7 +4,8 @@ use Rattle.io_caps.specs.Fault.{first_slot, IsFirstSlot}
 use Rattle.io_caps.specs.declared.fault.Slot.{Slot}
 use Rattle.io_caps.specs.declared.fault.Slot.TheVariants.{Source, Target}
 
-pub IsFirstSlot-from : (IsSource IsTarget : Option ℕ → Type 0) (source target : Option ℕ) (slot : Slot) → first_slot source target ≡ Some slot → IsSource source → IsTarget target → IsFirstSlot IsSource IsTarget slot
+pub IsFirstSlot-from : (IsSource IsTarget : Option ℕ → Type 0) (source target : Option ℕ) (slot : Slot) → first_slot source target ≡ Some slot
+    → IsSource source → IsTarget target → IsFirstSlot IsSource IsTarget slot
 IsFirstSlot-from IsSource IsTarget (Some k) target (Source s) is source_is target_is = let same : k ≡ s = cc in rw (← same) source_is
 IsFirstSlot-from IsSource IsTarget (Some k) target (Target t) is source_is target_is = absurd cc
 IsFirstSlot-from IsSource IsTarget None (Some k) (Source s) is source_is target_is = absurd cc

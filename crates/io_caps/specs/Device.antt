@@ -1,8 +1,11 @@
 -- The limits of a device. (This project's own.)
 use Rattle.std.specs.Prelude.{◌≢◌, ℕ, ◌+◌, ◌*◌, ◌<◌, ◌≤◌, length, All}
 use Rattle.std.specs.List.{AllPairs, sum_by}
-use Rattle.io_caps.specs.declared.limits.TheConstants.{MOST_INPUTS, MOST_OUTPUTS, MOST_INPUT_CHANNELS, MOST_HOLD, TICKS_PAST_BASE, SECONDS_OF_TIME}
-use Rattle.io_caps.specs.Port.{IsId, AreChannels, IsPayloadType, HasWholeBlocks, FitsPacket, IsRoutable}
+use Rattle.io_caps.specs.declared.limits.TheConstants.{MOST_INPUTS, MOST_OUTPUTS}
+use Rattle.io_caps.specs.declared.limits.TheConstants.{MOST_INPUT_CHANNELS, MOST_HOLD}
+use Rattle.io_caps.specs.declared.limits.TheConstants.{TICKS_PAST_BASE, SECONDS_OF_TIME}
+use Rattle.io_caps.specs.Port.{IsId, AreChannels, IsPayloadType}
+use Rattle.io_caps.specs.Port.{HasWholeBlocks, FitsPacket, IsRoutable}
 use Rattle.io_caps.specs.Rate.{IsRate}
 use Rattle.io_caps.specs.declared.rate.Rate.{Rate}
 use Rattle.io_caps.specs.declared.device.DeviceParts.{DeviceParts}
@@ -35,7 +38,7 @@ pub record HasStreams (d : DeviceParts) : Type 0 where
   pub output_types : All (λ o. IsPayloadType o.payload_type) d.outputs
   pub together : sum_by (λ i. length i.labels) d.inputs ≤ MOST_INPUT_CHANNELS
 
--- the blocks of the inputs, the packets of the outputs, and what may be routed to them
+-- the channel blocks of the inputs, the packets of the outputs, and what may be routed to them
 pub record HasRoutes (d : DeviceParts) : Type 0 where
   pub blocks : All HasWholeBlocks d.inputs
   pub packets : All (FitsPacket d.rate) d.outputs

@@ -1,7 +1,9 @@
--- The limits of one input or output. (This project's own, after what AMWA IS-08 v1.0 tells of an input or output and its caps:
--- `/inputs/{id}` and `/outputs/{id}`.)
-use Rattle.std.specs.Prelude.{◌≡◌, ℕ, ◌*◌, ◌%◌, ◌<◌, ◌≤◌, ◌⊎◌, List, length, All, Option, Some, None}
-use Rattle.io_caps.specs.declared.limits.TheConstants.{MOST_ID_BYTES, MOST_CHANNELS, MOST_PAYLOAD_TYPE, MOST_PAYLOAD}
+-- The limits of one input or output. (This project's own, after what AMWA IS-08 v1.0 tells of an
+-- input or output and its caps: `/inputs/{id}` and `/outputs/{id}`.)
+use Rattle.std.specs.Prelude.{◌≡◌, ℕ, ◌*◌, ◌%◌, ◌<◌, ◌≤◌, ◌⊎◌, List}
+use Rattle.std.specs.Prelude.{length, All, Option, Some, None}
+use Rattle.io_caps.specs.declared.limits.TheConstants.{MOST_ID_BYTES, MOST_CHANNELS}
+use Rattle.io_caps.specs.declared.limits.TheConstants.{MOST_PAYLOAD_TYPE, MOST_PAYLOAD}
 use Rattle.io_caps.specs.Rate.{bytes_per_sample}
 use Rattle.io_caps.specs.declared.rate.Rate.{Rate}
 use Rattle.io_caps.specs.declared.port.Routable.{Routable}
@@ -29,7 +31,7 @@ AreChannels labels = (1 ≤ length labels) × (length labels ≤ MOST_CHANNELS)
 abbrev pub IsPayloadType : ℕ → Type 0
 IsPayloadType t = t ≤ MOST_PAYLOAD_TYPE
 
--- the channels of an input are whole blocks
+-- the channels of an input are whole channel blocks
 abbrev pub HasWholeBlocks : Input → Type 0
 HasWholeBlocks i = (1 ≤ i.block_size) × (length i.labels % i.block_size ≡ 0)
 

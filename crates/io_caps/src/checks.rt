@@ -1,9 +1,12 @@
 //! The tests that parts are within the limits of a device, in the order of the faults.
 
-ghost use Rattle.std.specs.Prelude.{◌≡◌, ◌≢◌, ◌<◌, ◌≤◌, ◌↔◌, IsTrue, IfNone, IfSome, IfErr, OnOk, OnErr, All, List, ℕ, length, take};
+ghost use Rattle.std.specs.Prelude.{◌≡◌, ◌≢◌, ◌<◌, ◌≤◌, ◌↔◌, IsTrue, IfNone, IfSome};
+ghost use Rattle.std.specs.Prelude.{IfErr, OnOk, OnErr, All, List, ℕ, length, take};
 ghost use Rattle.std.specs.List.{AllPairs, Any, sum_by};
-ghost use Rattle.io_caps.specs.declared.limits.TheConstants.{MOST_INPUTS, MOST_OUTPUTS, MOST_CHANNELS, MOST_FRAMES};
-ghost use Rattle.io_caps.specs.Port.{IsIdByte, IsId, AreChannels, IsPayloadType, HasWholeBlocks, FitsPacket, IsRoutable};
+ghost use Rattle.io_caps.specs.declared.limits.TheConstants.{MOST_INPUTS, MOST_OUTPUTS};
+ghost use Rattle.io_caps.specs.declared.limits.TheConstants.{MOST_CHANNELS, MOST_FRAMES};
+ghost use Rattle.io_caps.specs.Port.{IsIdByte, IsId, AreChannels, IsPayloadType};
+ghost use Rattle.io_caps.specs.Port.{HasWholeBlocks, FitsPacket, IsRoutable};
 ghost use Rattle.io_caps.specs.Fault.{IsFirstFailing, IsFirstDouble, first_slot, IsFirstFault};
 ghost use Rattle.io_caps.specs.Device.{IsBase, HasBounds, HasIds, HasStreams, HasRoutes, IsDevice};
 
@@ -71,24 +74,28 @@ impl Port for Output {
     }
 }
 
+/// Whether a byte may stand in an id.
 fn is_id_byte(byte: u8) -> bool
     ensures { IsTrue result ↔ IsIdByte byte }
 {
     byte.is_ascii_alphanumeric() || byte == b'-' || byte == b'_'
 }
 
+/// Whether bytes are an id.
 fn is_id(id: &[u8]) -> bool
     ensures { IsTrue result ↔ IsId id.now }
 {
     id.len() >= 1 && id.len() <= MOST_ID_BYTES && id.iter().all(|byte| is_id_byte(*byte))
 }
 
+/// Whether a port may have a channel for each of these labels.
 fn are_channels(labels: &[Text]) -> bool
     ensures { IsTrue result ↔ AreChannels labels.now }
 {
     labels.len() >= 1 && labels.len() <= MOST_CHANNELS
 }
 
+/// Whether ticks at a base this far on still have times.
 fn is_base(rate: Rate, base: u64) -> bool
     ensures { IsTrue result ↔ IsBase rate base }
 {
@@ -119,7 +126,7 @@ fn bad_payload_type<P: Port>(ports: &[P]) -> Option<usize>
         .position(|port| port.payload_type() > MOST_PAYLOAD_TYPE)
 }
 
-/// The first input whose channels are no whole blocks.
+/// The first input whose channels are no whole channel blocks.
 fn bad_blocks(inputs: &[Input]) -> Option<usize>
     ensures { IsFirstFailing HasWholeBlocks inputs.now result }
 {
@@ -142,6 +149,7 @@ fn bad_packet(rate: Rate, outputs: &[Output]) -> Option<usize>
     outputs.iter().position(|output| !output.fits_packet(rate))
 }
 
+/// Whether one of the ports has the id.
 fn has_id<P: Port>(ports: &[P], id: &[u8]) -> bool
     ensures { IsTrue result ↔ Any (λ p. P.id p ≡ id.now) ports.now }
 {
@@ -199,6 +207,7 @@ impl DeviceParts {
         self.check_routes()
     }
 
+    /// The first fault of the rate, of the base tick, and of how much of each thing there is.
     fn check_bounds(&self) -> Result<(), DeviceFault>
         ensures ok { OnOk result (HasBounds self.now) }
         ensures fault { OnErr result (HasBounds self.now → ⊥) }
@@ -225,6 +234,7 @@ impl DeviceParts {
         Ok(())
     }
 
+    /// The first fault of the ids.
     fn check_ids(&self) -> Result<(), DeviceFault>
         requires bounds { HasBounds self.now }
         ensures ok { OnOk result (HasIds self.now) }
@@ -242,6 +252,7 @@ impl DeviceParts {
         Ok(())
     }
 
+    /// The first fault of the channels and the payload types.
     fn check_streams(&self) -> Result<(), DeviceFault>
         requires bounds { HasBounds self.now }
         requires ids { HasIds self.now }
@@ -263,6 +274,7 @@ impl DeviceParts {
         Ok(())
     }
 
+    /// The first fault of the channel blocks, of the packets and of what may be routed.
     fn check_routes(&self) -> Result<(), DeviceFault>
         requires bounds { HasBounds self.now }
         requires ids { HasIds self.now }

@@ -63,7 +63,8 @@ pub enum DeviceFault {
     /// More than 128 channels of all inputs together.
     #[error("the inputs have more than 128 channels together")]
     ManyChannels,
-    /// The input of this number has a block size of 0, or one that doesn't divide its channels.
+    /// The input of this number has a channel block size of 0, or one that doesn't divide its
+    /// channels.
     #[error("input {0}: the channels are no whole blocks")]
     Block(u8),
     /// The output of this number has more than 1440 bytes of samples a tick.

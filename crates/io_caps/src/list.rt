@@ -1,6 +1,7 @@
 //! The one list type, under every list type of the product.
 
-ghost use Rattle.std.specs.Prelude.{◌≡◌, [], ◌∷◌, ◌++◌, ◌<◌, ◌↔◌, length, take, slice_get, slice_set, IsSome, OnOk, OnErr};
+ghost use Rattle.std.specs.Prelude.{◌≡◌, [], ◌∷◌, ◌++◌, ◌<◌, ◌↔◌, length, take};
+ghost use Rattle.std.specs.Prelude.{slice_get, slice_set, IsSome, OnOk, OnErr};
 ghost use Rattle.std.specs.Option.{option_copied};
 
 use crate::{NoMemory, TryCopy};

@@ -1,4 +1,4 @@
-//! Want of memory, and plain data that can be copied.
+//! Want of memory, and values that can be copied.
 
 ghost use Rattle.std.specs.Prelude.{◌≡◌, IfOk};
 
@@ -51,7 +51,7 @@ impl<T: Drop> From<AllocFailed<T>> for NoMemory {
     }
 }
 
-/// Plain data, of which an equal value can be made.
+/// Values of which an equal one can be made.
 pub trait TryCopy: Drop {
     /// An equal value, or want of memory.
     fn copy(&self) -> Result<Self, NoMemory>

@@ -43,6 +43,7 @@ impl Routable {
     }
 }
 
+/// Whether an output may list this choice: it is none, or an input that is there.
 fn is_choice(inputs: usize, choice: Option<u8>) -> bool
     ensures { IsTrue result ↔ IsChoice inputs choice }
 {
@@ -70,9 +71,9 @@ pub struct Input {
     pub labels: Labels,
     pub width: Width,
     pub payload_type: u8,
-    /// How many neighbouring channels are routed together.
+    /// How many neighbouring channels are routed together, as one channel block.
     pub block_size: u8,
-    /// Whether the channels of a block may be routed in another order.
+    /// Whether the channels of a channel block may be routed in another order.
     pub reordering: bool,
     pub parent: Parent,
 }
@@ -85,7 +86,7 @@ impl Input {
         self.labels.len()
     }
 
-    /// Whether its channels are whole blocks.
+    /// Whether its channels are whole channel blocks.
     pub(crate) fn has_whole_blocks(&self) -> bool
         ensures { IsTrue result ↔ HasWholeBlocks self.now }
     {

@@ -9,7 +9,8 @@ use Rattle.std.proofs.Math.Seq.{get_or-append_seam}
 use Rattle.map_entry.specs.Action.{OutputChangeParts, AreAscending, IsOutputChange, IsAction}
 
 -- a greater number at the end
-pub AreAscending-push : {X : Type 0} (n : X → ℕ) (xs : List X) (y : X) → AreAscending n xs → IfSome (slice_get xs (length xs - 1)) (λ last. n last < n y) → AreAscending n (xs ++ y ∷ [])
+pub AreAscending-push : {X : Type 0} (n : X → ℕ) (xs : List X) (y : X) → AreAscending n xs
+    → IfSome (slice_get xs (length xs - 1)) (λ last. n last < n y) → AreAscending n (xs ++ y ∷ [])
 AreAscending-push n xs y up below k d within = elim (cases_lt (k + 1) (length xs)) [
   | inl inside ↦ rw (get_or_append_left xs (y ∷ []) d k (omega arith), get_or_append_left xs (y ∷ []) d (k + 1) inside) (up k d inside)
   | inr seam ↦
@@ -22,7 +23,8 @@ AreAscending-push n xs y up below k d within = elim (cases_lt (k + 1) (length xs
 ]
 
 -- a change of an output behind the last one
-pub IsAction-push : (action : List OutputChangeParts) (change : OutputChangeParts) → IsAction action → IsOutputChange change → IfSome (slice_get action (length action - 1)) (λ last. last.output < change.output) → IsAction (action ++ change ∷ [])
+pub IsAction-push : (action : List OutputChangeParts) (change : OutputChangeParts) → IsAction action → IsOutputChange change
+    → IfSome (slice_get action (length action - 1)) (λ last. last.output < change.output) → IsAction (action ++ change ∷ [])
 IsAction-push action change is one below = record {
   outputs = AreAscending-push (λ (c : OutputChangeParts). c.output) action change is.outputs below;
   changes = All-push IsOutputChange action change is.changes one;

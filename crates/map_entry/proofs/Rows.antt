@@ -16,14 +16,16 @@ pub rows_long : (s : SetupParts) → IsSetup s → length s.rows ≡ length s.de
 rows_long s is = AllZip-long HasCells s.device.outputs s.rows is.count
 
 -- the row of an output has its cells
-row_long : (outputs : List Output) (rows : List (List Cell)) (k : ℕ) (row : List Cell) → AllZip HasCells outputs rows → slice_get rows k ≡ Some row → length row ≡ option_map_or (λ o. length o.labels) (slice_get outputs k) 0
+row_long : (outputs : List Output) (rows : List (List Cell)) (k : ℕ) (row : List Cell) → AllZip HasCells outputs rows → slice_get rows k ≡ Some row
+    → length row ≡ option_map_or (λ o. length o.labels) (slice_get outputs k) 0
 row_long [] [] k row all e = absurd cc
 row_long [] (r ∷ rows) k row all e = absurd all
 row_long (o ∷ outputs) [] k row all e = absurd all
 row_long (o ∷ outputs) (r ∷ rows) zero row all e = let same : r ≡ row = cc in subst (λ (x : List Cell). length x ≡ length o.labels) same all.0
 row_long (o ∷ outputs) (r ∷ rows) (suc k) row all e = row_long outputs rows k row all.1 e
 
-pub base_long : (d : DeviceParts) (rows : List (List Cell)) (k : ℕ) (row : List Cell) → AllZip HasCells d.outputs rows → slice_get rows k ≡ Some row → length row ≡ channels_of_output d k
+pub base_long : (d : DeviceParts) (rows : List (List Cell)) (k : ℕ) (row : List Cell) → AllZip HasCells d.outputs rows → slice_get rows k ≡ Some row
+    → length row ≡ channels_of_output d k
 base_long d rows k row all e = row_long d.outputs rows k row all e
 
 -- the base row of an output is one of it

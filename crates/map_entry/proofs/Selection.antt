@@ -1,37 +1,23 @@
 -- Which entry rules: laws of the selection, over any key.
-use Rattle.std.proofs.Common.{◌≡◌, ℕ, ◌+◌, ◌-◌, ◌<◌, ◌≤◌, Bool, true, false, List, [], ◌∷◌, ◌++◌, length, get_or, take, Some, None, Option, refl, sym, ap, ◌∙◌, arith}
+use Rattle.std.proofs.Common.{◌≡◌, ℕ, ◌+◌, ◌-◌, ◌<◌, ◌≤◌, Bool, true, false, List, [], ◌∷◌}
+use Rattle.std.proofs.Common.{◌++◌, length, get_or, take, Some, None, Option, refl, sym, ap, ◌∙◌, arith}
 use Rattle.std.specs.Prelude.{All}
 use Rattle.std.specs.Option.{option_or}
 use Rattle.std.proofs.lemmas.List.{take_more}
 use Rattle.std.proofs.lemmas.List.Elements.{All-head, All-tail, All-cons, All-nil}
 use Rattle.map_entry.specs.declared.cell.Cell.{Cell}
 use Rattle.map_entry.specs.declared.entry.Entry.{Entry}
+pub use Rattle.list_laws.proofs.Options.{option_or-None}
+use Rattle.list_laws.proofs.Options.{option_or-assoc, option_or-first, option_or-second}
 use Rattle.map_entry.specs.Entry.{rules, row_where, selected_by}
-
--- ---- the first of options that is there
-
-pub option_or-assoc : {X : Type 0} (a b c : Option X) → option_or (option_or a b) c ≡ option_or a (option_or b c)
-option_or-assoc None b c = refl
-option_or-assoc (Some x) b c = refl
-
-pub option_or-None : {X : Type 0} (a : Option X) → option_or a None ≡ a
-option_or-None None = refl
-option_or-None (Some x) = refl
-
-pub option_or-first : {X : Type 0} (a b : Option X) → option_or a b ≡ None → a ≡ None
-option_or-first None b e = refl
-option_or-first (Some x) b e = absurd cc
-
-pub option_or-second : {X : Type 0} (a b : Option X) → option_or a b ≡ None → b ≡ None
-option_or-second None b e = e
-option_or-second (Some x) b e = absurd cc
 
 row_where-None : (b : Bool) (e : Entry) → row_where b e ≡ None → b ≡ false
 row_where-None true e missed = absurd cc
 row_where-None false e missed = refl
 
 -- append: what is selected of the second list, or else of the first
-pub selected-append : (key : Entry → ℕ) (a b : List Entry) (o t : ℕ) → selected_by key (a ++ b) o t ≡ option_or (selected_by key b o t) (selected_by key a o t)
+pub selected-append : (key : Entry → ℕ) (a b : List Entry) (o t : ℕ)
+    → selected_by key (a ++ b) o t ≡ option_or (selected_by key b o t) (selected_by key a o t)
 selected-append key [] b o t = sym (option_or-None (selected_by key b o t))
 selected-append key (e ∷ a) b o t =
     ap (λ (r : Option (List Cell)). option_or r (row_where (rules key o t e) e)) (selected-append key a b o t)
@@ -54,7 +40,8 @@ selected-missed key (e ∷ es) o t missed =
     (selected-missed key es o t (option_or-first (selected_by key es o t) (row_where (rules key o t e) e) missed))
 
 -- stays: entries that don't rule change nothing
-pub selected-stays : (key : Entry → ℕ) (a b : List Entry) (o t : ℕ) → All (λ e. rules key o t e ≡ false) b → selected_by key (a ++ b) o t ≡ selected_by key a o t
+pub selected-stays : (key : Entry → ℕ) (a b : List Entry) (o t : ℕ) → All (λ e. rules key o t e ≡ false) b
+    → selected_by key (a ++ b) o t ≡ selected_by key a o t
 selected-stays key a b o t none = rw (selected-append key a b o t, selected-miss key b o t none) refl
 
 -- an entry due later rules nothing below
@@ -69,15 +56,18 @@ none_rules key (e ∷ es) o t late =
     (none_rules key es o t (All-tail (λ (x : Entry). t < key x) e es late))
 
 -- later: entries due later change nothing below
-pub selected-later : (key : Entry → ℕ) (a b : List Entry) (o t : ℕ) → All (λ e. t < key e) b → selected_by key (a ++ b) o t ≡ selected_by key a o t
+pub selected-later : (key : Entry → ℕ) (a b : List Entry) (o t : ℕ) → All (λ e. t < key e) b
+    → selected_by key (a ++ b) o t ≡ selected_by key a o t
 selected-later key a b o t late = selected-stays key a b o t (none_rules key b o t late)
 
 -- the last entry
-pub selected-last : (key : Entry → ℕ) (es : List Entry) (e : Entry) (o t : ℕ) → selected_by key (es ++ e ∷ []) o t ≡ option_or (row_where (rules key o t e) e) (selected_by key es o t)
+pub selected-last : (key : Entry → ℕ) (es : List Entry) (e : Entry) (o t : ℕ)
+    → selected_by key (es ++ e ∷ []) o t ≡ option_or (row_where (rules key o t e) e) (selected_by key es o t)
 selected-last key es e o t = selected-append key es (e ∷ []) o t
 
 -- hit: an entry that rules, with none behind it that does
-pub selected-hit : (key : Entry → ℕ) (a : List Entry) (e : Entry) (b : List Entry) (o t : ℕ) → rules key o t e ≡ true → All (λ x. rules key o t x ≡ false) b → selected_by key (a ++ e ∷ b) o t ≡ Some e.row
+pub selected-hit : (key : Entry → ℕ) (a : List Entry) (e : Entry) (b : List Entry) (o t : ℕ) → rules key o t e ≡ true
+    → All (λ x. rules key o t x ≡ false) b → selected_by key (a ++ e ∷ b) o t ≡ Some e.row
 selected-hit key a e b o t hit none =
     let rest : selected_by key b o t ≡ None = selected-miss key b o t none in
     selected-append key a (e ∷ b) o t ∙ rw (rest, hit) refl

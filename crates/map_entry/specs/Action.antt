@@ -1,5 +1,6 @@
 -- Changes of rows. (This project's own, after the activations of IS-08.)
-use Rattle.std.specs.Prelude.{◌≡◌, ◌≢◌, ℕ, ◌<◌, eqb, List, length, fold, slice_get, slice_set, All, Option, Some, None, IfSome}
+use Rattle.std.specs.Prelude.{◌≡◌, ◌≢◌, ℕ, ◌<◌, eqb, List, length, fold, slice_get}
+use Rattle.std.specs.Prelude.{slice_set, All, Option, Some, None, IfSome}
 use Rattle.std.specs.List.{find, AllAdjacentBelow}
 use Rattle.map_entry.specs.declared.cell.Cell.{Cell}
 use Rattle.map_entry.specs.declared.change.Change.{Change}
@@ -28,13 +29,15 @@ pub record IsAction (action : List OutputChangeParts) : Type 0 where
 
 -- the row with each named channel set to its cell
 abbrev pub with_changes : List Change → List Cell → List Cell
-with_changes changes row = fold (λ made change. slice_set made change.channel change.cell) row changes
+with_changes changes row =
+    fold (λ made change. slice_set made change.channel change.cell) row changes
 
 -- what an action changes of an output, where it names it
 abbrev pub change_of : List OutputChangeParts → ℕ → Option OutputChangeParts
 change_of action output = find (λ c. eqb c.output output) action
 
--- the row with what an action changes of its output: the row itself, where the action doesn't name the output
+-- the row with what an action changes of its output: the row itself, where the action doesn't name
+-- the output
 abbrev pub applied_by : Option OutputChangeParts → List Cell → List Cell
 applied_by None row = row
 applied_by (Some change) row = with_changes change.changes row
@@ -54,9 +57,12 @@ FitsRow action output channels = IfSome (change_of action output) (NamesChannels
 -- what an action made of a row of the output: each channel that it names has its cell
 abbrev pub HasNamedCells : List OutputChangeParts → ℕ → List Cell → Type 0
 HasNamedCells action output made =
-    IfSome (change_of action output) (λ c. All (λ change. slice_get made change.channel ≡ Some change.cell) c.changes)
+    IfSome (change_of action output)
+    (λ c. All (λ change. slice_get made change.channel ≡ Some change.cell) c.changes)
 
 -- and each channel that it doesn't name has the cell that it had
 abbrev pub KeepsOtherCells : List OutputChangeParts → ℕ → List Cell → List Cell → Type 0
 KeepsOtherCells action output row made =
-    (channel : ℕ) → IfSome (change_of action output) (λ c. All (λ change. change.channel ≢ channel) c.changes) → slice_get made channel ≡ slice_get row channel
+    (channel : ℕ) → IfSome (change_of action output)
+    (λ c. All (λ change. change.channel ≢ channel) c.changes)
+    → slice_get made channel ≡ slice_get row channel

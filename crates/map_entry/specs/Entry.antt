@@ -1,5 +1,6 @@
 -- Map entries, and which row an output has at a tick. (This project's own.)
-use Rattle.std.specs.Prelude.{◌≡◌, ℕ, ◌<◌, ◌≤◌, Bool, true, false, eqb, nat_lt, ◌&&◌, not, List, [], ◌∷◌, length, Option, Some, None, IsSomeAnd}
+use Rattle.std.specs.Prelude.{◌≡◌, ℕ, ◌<◌, ◌≤◌, Bool, true, false, eqb, nat_lt, ◌&&◌}
+use Rattle.std.specs.Prelude.{not, List, [], ◌∷◌, length, Option, Some, None, IsSomeAnd}
 use Rattle.std.specs.Option.{option_or}
 use Rattle.io_caps.specs.declared.device.DeviceParts.{DeviceParts}
 use Rattle.map_entry.specs.declared.cell.Cell.{Cell}
@@ -28,7 +29,8 @@ row_where false entry = None
 -- the row of the last entry, in list order, that rules the output at a key
 abbrev pub selected_by : (Entry → ℕ) → List Entry → ℕ → ℕ → Option (List Cell)
 selected_by key [] output at = None
-selected_by key (entry ∷ entries) output at = option_or (selected_by key entries output at) (row_where (rules key output at entry) entry)
+selected_by key (entry ∷ entries) output at =
+    option_or (selected_by key entries output at) (row_where (rules key output at entry) entry)
 
 -- the row of the last entry, in list order, that is of the output and has taken effect at a tick
 abbrev pub selected : List Entry → ℕ → ℕ → Option (List Cell)
@@ -43,4 +45,5 @@ IsEntryOk d entry = IsRowOf d entry.output entry.row
 -- each output has a row from a tick on, with a cell for each of its channels
 abbrev pub HasRowsFrom : DeviceParts → List Entry → ℕ → Type 0
 HasRowsFrom d entries from =
-    (output tick : ℕ) → output < length d.outputs → from ≤ tick → IsSomeAnd (selected entries output tick) (λ row. length row ≡ channels_of_output d output)
+    (output tick : ℕ) → output < length d.outputs → from ≤ tick
+    → IsSomeAnd (selected entries output tick) (λ row. length row ≡ channels_of_output d output)

@@ -25,9 +25,11 @@ HasCells output row = length row ≡ length output.labels
 
 -- the base row of each output below a number passes the check there
 abbrev pub AreRowsOk : SetupParts → ℕ → Type 0
-AreRowsOk setup outputs = (output : ℕ) → output < outputs → IfSome (slice_get setup.rows output) (IsRowOk setup.device output)
+AreRowsOk setup outputs = (output : ℕ) → output < outputs
+    → IfSome (slice_get setup.rows output) (IsRowOk setup.device output)
 
--- a device within its limits, and a row for each output with a cell for each channel, which passes the check
+-- a device within its limits, and a row for each output with a cell for each channel, which passes
+-- the check
 pub record IsSetup (setup : SetupParts) : Type 0 where
   pub device : IsDevice setup.device
   pub count : AllZip HasCells setup.device.outputs setup.rows
@@ -35,10 +37,11 @@ pub record IsSetup (setup : SetupParts) : Type 0 where
 
 -- the base row of an output has this fault
 abbrev pub HasRowFault : SetupParts → ℕ → RowFault → Type 0
-HasRowFault setup output fault = IsSomeAnd (slice_get setup.rows output) (λ row. row_fault setup.device output row ≡ Some fault)
+HasRowFault setup output fault =
+    IsSomeAnd (slice_get setup.rows output) (λ row. row_fault setup.device output row ≡ Some fault)
 
--- what a fault says of a device and rows: not a row for each output with a cell for each channel; or such rows, and the first
--- that fails the check is this output's and has this fault
+-- what a fault says of a device and rows: not a row for each output with a cell for each channel;
+-- or such rows, and the first that fails the check is this output's and has this fault
 abbrev pub IsBrokenBy : SetupParts → SetupFault → Type 0
 IsBrokenBy setup Count = AllZip HasCells setup.device.outputs setup.rows → ⊥
 IsBrokenBy setup (BaseRow output fault) =

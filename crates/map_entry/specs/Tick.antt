@@ -1,5 +1,5 @@
--- Which packet a claim is. With n outputs, claim k is the packet of output k mod n at the tick k div n from the base.
--- (This project's own.)
+-- Which packet a claim is. With n outputs, claim k is the packet of output k mod n at the tick k
+-- div n from the base tick. (This project's own.)
 use Rattle.std.specs.Prelude.{ℕ, ◌+◌, ◌/◌, ◌%◌}
 use Rattle.std.specs.Int.{div_ceil}
 

@@ -55,7 +55,8 @@ impl Action {
     /// Adds what is changed of an output behind the last one. Want of memory leaves the action as
     /// it was.
     pub fn push(&mut self, change: OutputChange) -> Result<(), NoMemory>
-        requires { IfSome (slice_get self.old (length self.old - 1)) (λ last. last.output < change.output) }
+        requires { IfSome (slice_get self.old (length self.old - 1))
+            (λ last. last.output < change.output) }
         ensures ok { OnOk result (self.new ≡ self.old ++ change ∷ []) }
         ensures err { OnErr result (self.new ≡ self.old) }
     {

@@ -71,6 +71,7 @@ impl OutputChange {
     }
 }
 
+/// Whether the channels ascend.
 fn are_ascending(changes: &[Change]) -> bool
     ensures { IsTrue result ↔ AreAscending (λ change. change.channel) changes.now }
 {

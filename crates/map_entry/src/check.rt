@@ -12,6 +12,7 @@ use crate::pieces::{cell_at, is_ordered_from, is_whole_from};
 use crate::{Cell, Row, RowFault};
 use io_caps::{Device, Routable};
 
+/// Whether two choices are alike.
 fn is_same_choice(a: Option<u8>, b: Option<u8>) -> bool
     ensures { result ≡ same_choice a b }
 {
@@ -23,6 +24,7 @@ fn is_same_choice(a: Option<u8>, b: Option<u8>) -> bool
     }
 }
 
+/// Whether a choice is on a list.
 fn is_listed(choice: Option<u8>, choices: &[Option<u8>]) -> bool
     ensures { result ≡ list_any (same_choice choice) choices.now }
 {
@@ -65,7 +67,7 @@ fn bad_choice(routable: &Routable, row: &[Cell]) -> Option<usize>
     (0..row.len()).find(|channel| !is_allowed(routable, cell_at(row, *channel)))
 }
 
-/// The lowest channel at which a piece begins that is no whole block.
+/// The lowest channel at which a piece begins that is no whole channel block.
 fn bad_block(device: &Device, row: &[Cell]) -> Option<usize>
     requires { (k : ℕ) → IsChannelThere device.now.inputs (cell_at row.now k) }
     ensures value { result ≡ lowest_out (whole_from device.now.inputs row.now) row.now }
@@ -74,7 +76,7 @@ fn bad_block(device: &Device, row: &[Cell]) -> Option<usize>
     (0..row.len()).find(|channel| !is_whole_from(device, row, *channel, cell_at(row, *channel)))
 }
 
-/// The lowest channel at which a piece begins whose block may not be reordered, but is.
+/// The lowest channel at which a piece begins whose channel block may not be reordered, but is.
 fn bad_order(device: &Device, row: &[Cell]) -> Option<usize>
     requires { (k : ℕ) → IsChannelThere device.now.inputs (cell_at row.now k) }
     ensures value { result ≡ lowest_out (ordered_from device.now.inputs row.now) row.now }

@@ -17,11 +17,11 @@ pub enum RowFault {
     /// output's routable list.
     #[error("channel {0} may not be routed so")]
     NotRoutable(u8),
-    /// The channel begins a piece that is no whole block of its input.
+    /// The channel begins a piece that is no whole channel block of its input.
     #[error("channel {0} begins a piece that is no whole block")]
     Block(u8),
-    /// The channel begins a piece in another order than its block, whose channels may not be
-    /// reordered.
+    /// The channel begins a piece in another order than its channel block, whose channels may not
+    /// be reordered.
     #[error("channel {0} begins a piece in another order than its block")]
     Order(u8),
 }

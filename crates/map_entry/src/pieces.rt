@@ -1,5 +1,5 @@
 //! The pieces of a row: how the channels that name an input are cut, and whether a piece is a whole
-//! block in order.
+//! channel block in order.
 
 ghost use Rattle.std.specs.Prelude.{◌≡◌, ◌<◌, count_by, take};
 ghost use Rattle.std.specs.List.{list_all, list_any, range_with_len};
@@ -38,19 +38,22 @@ fn piece_at(size: u8, row: &[Cell], channel: usize) -> &[Cell]
     &rest[..rest.len().min(size as usize)]
 }
 
+/// Whether each channel of a piece names the input.
 fn all_name(piece: &[Cell], input: u8) -> bool
     ensures { result ≡ list_all (names input) piece.now }
 {
     piece.iter().all(|cell| cell.names(input))
 }
 
+/// Whether a channel of a piece names this channel of the input.
 fn names_channel(piece: &[Cell], input: u8, channel: usize) -> bool
     ensures { result ≡ list_any (is_from input channel) piece.now }
 {
     piece.iter().any(|cell| cell.is_from(input, channel))
 }
 
-/// Whether a piece names each channel of the block of an input whose first channel is `from`.
+/// Whether a piece names each channel of the channel block of an input whose first channel is
+/// `from`.
 fn names_block(size: u8, input: u8, from: u8, piece: &[Cell]) -> bool
     ensures { result ≡ list_all (names_part input from piece.now) (range_with_len 0 size) }
 {
@@ -58,7 +61,7 @@ fn names_block(size: u8, input: u8, from: u8, piece: &[Cell]) -> bool
 }
 
 /// Whether a piece is whole: so many neighbouring channels, which all name the input and name each
-/// channel of the block.
+/// channel of the channel block.
 fn is_whole(size: u8, input: u8, from: u8, piece: &[Cell]) -> bool
     ensures { result ≡ is_whole size input from piece.now }
 {
@@ -66,14 +69,14 @@ fn is_whole(size: u8, input: u8, from: u8, piece: &[Cell]) -> bool
         && (all_name(piece, input) && names_block(size, input, from, piece))
 }
 
-/// Whether a piece names the channels of its block in ascending order.
+/// Whether a piece names the channels of its channel block in ascending order.
 fn ascends(size: u8, input: u8, from: u8, piece: &[Cell]) -> bool
     ensures { result ≡ ascends size input from piece.now }
 {
     (0..size as usize).all(|k| cell_at(piece, k).is_from(input, from as usize + k))
 }
 
-/// The first channel of the block in which a channel lies.
+/// The first channel of the channel block in which a channel lies.
 fn block_from(size: u8, channel: u8) -> u8
     requires { 0 < size }
     ensures { result ≡ block_from size channel }

@@ -57,6 +57,7 @@ fn change_row(row: &mut Row, action: &Action, output: u8)
     }
 }
 
+/// Gives the channels that are named their new cells.
 fn set_cells(row: &mut Row, changes: &[Change])
     requires { All (λ change. change.channel < length row.old) changes.now }
     ensures { row.new ≡ with_changes changes.now row.old }

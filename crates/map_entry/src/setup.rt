@@ -3,7 +3,8 @@
 ghost use Rattle.std.specs.Prelude.{◌≡◌, ◌<◌, ◌↔◌, IsTrue, IfOk, IfErr, OnOk, OnErr, Some};
 ghost use Rattle.std.specs.Prelude.{IsSomeAnd, slice_get, length};
 ghost use Rattle.std.specs.List.{AllZip};
-ghost use Rattle.map_entry.specs.Setup.{IsSetup, IsBrokenBy, AreRowsOk, HasCells, HasRowFault, setup_of};
+ghost use Rattle.map_entry.specs.Setup.{IsSetup, IsBrokenBy, AreRowsOk};
+ghost use Rattle.map_entry.specs.Setup.{HasCells, HasRowFault, setup_of};
 ghost use Rattle.io_caps.specs.Memory.{IsFaultAnd};
 
 use crate::{Row, RowFault, Rows, SetupFault, check_row};
@@ -49,6 +50,7 @@ impl Setup {
     }
 }
 
+/// Whether there is a row for each output, with a cell for each channel.
 fn have_cells(outputs: &[Output], rows: &[Row]) -> bool
     ensures { IsTrue result ↔ AllZip HasCells outputs.now rows.now }
 {

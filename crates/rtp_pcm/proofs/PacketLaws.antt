@@ -1,15 +1,19 @@
 -- The packet layout and the places of its parts say the same, and no bytes have two readings.
-use Rattle.std.proofs.Common.{◌≡◌, ◌<◌, ◌≤◌, ℕ, suc, ◌+◌, ◌-◌, ◌*◌, ◌/◌, ◌%◌, ◌^◌, Bool, true, false, List, [], ◌∷◌, ◌++◌, length, get_or, take, drop, refl, sym, ap, subst, ◌∙◌, append_assoc, arith, inl, inr}
+use Rattle.std.proofs.Common.{◌≡◌, ◌<◌, ◌≤◌, ℕ, suc, ◌+◌, ◌-◌, ◌*◌, ◌/◌, ◌%◌, ◌^◌, Bool, true, false, List}
+use Rattle.std.proofs.Common.{[], ◌∷◌, ◌++◌, length, get_or, take, drop, refl, sym, ap, subst, ◌∙◌, append_assoc, arith, inl, inr}
 use Rattle.std.specs.Prelude.{◌==◌, IsTrue, if◌then◌else◌, slice_index}
 use Rattle.std.proofs.Math.Seq.{drop-cons}
 use Rattle.std.proofs.lemmas.Bool.{cases_lt}
-use Rattle.std.proofs.lemmas.List.{append-nil, take_at, drop_at, drop-drop, take-append-drop, length-append, length-take, length-drop, drop_all, get_or-drop, get_or-take, get_or_past, get_or_at}
+use Rattle.std.proofs.lemmas.List.{append-nil, take_at, drop_at, drop-drop, take-append-drop, length-append}
+use Rattle.std.proofs.lemmas.List.{length-take, length-drop, drop_all, get_or-drop, get_or-take, get_or_at}
 use Rattle.std.proofs.lemmas.Nat.{be_bytes_2, be_bytes_4}
+use Rattle.list_laws.proofs.Items.{drop_each, take_each}
 use Rattle.byteorder.specs.Endian.{big_bytes, big_number}
 use Rattle.byteorder.specs.Numbers.{big_number-reads_back, big_from-lt}
 use Rattle.rtp_pcm.specs.declared.packet.Head.{Head}
 use Rattle.rtp_pcm.specs.Packet.{bit, IsHead, fixed_part, IsExtensionPart, IsPaddingPart, IsRtp, rtp_packet}
-use Rattle.rtp_pcm.specs.Places.{version, is_padded, is_extended, is_marked, head_in, csrc_end, behind_csrcs, extension_length, behind_extension, last_byte, before_padding, payload_in, HasAllParts, IsPadded}
+use Rattle.rtp_pcm.specs.Places.{version, is_padded, is_extended, is_marked, head_in, csrc_end, behind_csrcs, extension_length}
+use Rattle.rtp_pcm.specs.Places.{behind_extension, last_byte, before_padding, payload_in, HasAllParts, IsPadded}
 
 -- ---- from the layout to the places
 
@@ -24,22 +28,27 @@ pub record BeginsWith (bytes : List ℕ) (padded extended : Bool) (count : ℕ) 
   pub behind : drop 12 bytes ≡ rest
   pub long : 12 ≤ length bytes
 
-first_byte : (padded extended : Bool) (count : ℕ) → count < 16 → let x = 2 * 64 + bit padded 32 + bit extended 16 + count in (x / 64 ≡ 2) × ((x / 32 % 2 == 1) ≡ padded) × ((x / 16 % 2 == 1) ≡ extended) × (x % 16 ≡ count)
+first_byte : (padded extended : Bool) (count : ℕ) → count < 16 → let x = 2 * 64 + bit padded 32 + bit extended 16 + count in
+    (x / 64 ≡ 2) × ((x / 32 % 2 == 1) ≡ padded) × ((x / 16 % 2 == 1) ≡ extended) × (x % 16 ≡ count)
 first_byte true true count h = (omega arith, grind arith, grind arith, omega arith)
 first_byte true false count h = (omega arith, grind arith, grind arith, omega arith)
 first_byte false true count h = (omega arith, grind arith, grind arith, omega arith)
 first_byte false false count h = (omega arith, grind arith, grind arith, omega arith)
 
-second_byte : (marker : Bool) (payload_type : ℕ) → payload_type < 2 ^ 7 → let x = bit marker 128 + payload_type in ((x / 128 % 2 == 1) ≡ marker) × (x % 128 ≡ payload_type)
+second_byte : (marker : Bool) (payload_type : ℕ) → payload_type < 2 ^ 7 → let x = bit marker 128 + payload_type in
+    ((x / 128 % 2 == 1) ≡ marker) × (x % 128 ≡ payload_type)
 second_byte true payload_type h = (grind arith, omega arith)
 second_byte false payload_type h = (grind arith, omega arith)
 
-begins : (padded extended : Bool) (count : ℕ) (marker : Bool) (head : Head) (rest : List ℕ) → count < 16 → IsHead head → BeginsWith (fixed_part padded extended count marker head ++ rest) padded extended count marker head rest
+begins : (padded extended : Bool) (count : ℕ) (marker : Bool) (head : Head) (rest : List ℕ) → count < 16 → IsHead head
+    → BeginsWith (fixed_part padded extended count marker head ++ rest) padded extended count marker head rest
 begins padded extended count marker head rest few h =
     let first = first_byte padded extended count few in
     let second = second_byte marker head.payload_type h.0 in
-    let sequence : big_number 2 (big_bytes 2 head.sequence ++ (big_bytes 4 head.timestamp ++ (big_bytes 4 head.ssrc ++ rest))) ≡ head.sequence = big_number-reads_back 2 head.sequence (big_bytes 4 head.timestamp ++ (big_bytes 4 head.ssrc ++ rest)) h.1 in
-    let timestamp : big_number 4 (big_bytes 4 head.timestamp ++ (big_bytes 4 head.ssrc ++ rest)) ≡ head.timestamp = big_number-reads_back 4 head.timestamp (big_bytes 4 head.ssrc ++ rest) h.2 in
+    let sequence : big_number 2 (big_bytes 2 head.sequence ++ (big_bytes 4 head.timestamp ++ (big_bytes 4 head.ssrc ++ rest))) ≡ head.sequence =
+    big_number-reads_back 2 head.sequence (big_bytes 4 head.timestamp ++ (big_bytes 4 head.ssrc ++ rest)) h.1 in
+    let timestamp : big_number 4 (big_bytes 4 head.timestamp ++ (big_bytes 4 head.ssrc ++ rest)) ≡ head.timestamp =
+    big_number-reads_back 4 head.timestamp (big_bytes 4 head.ssrc ++ rest) h.2 in
     let ssrc : big_number 4 (big_bytes 4 head.ssrc ++ rest) ≡ head.ssrc = big_number-reads_back 4 head.ssrc rest h.3 in
     record {
       two = first.0;
@@ -53,7 +62,8 @@ begins padded extended count marker head rest few h =
     }
 
 extension_read : (extended : Bool) (part rest : List ℕ) → IsExtensionPart extended part
-    → ((if extended then drop (extension_length (part ++ rest)) (part ++ rest) else (part ++ rest)) ≡ rest) × (IsTrue extended → extension_length (part ++ rest) ≤ length (part ++ rest))
+    → ((if extended then drop (extension_length (part ++ rest)) (part ++ rest) else (part ++ rest)) ≡ rest)
+    × (IsTrue extended → extension_length (part ++ rest) ≤ length (part ++ rest))
 extension_read true part rest e =
     let split : part ++ rest ≡ e.open_bytes ++ (big_bytes 2 e.count ++ (e.words ++ rest)) =
     ap (λ (x : List ℕ). x ++ rest) e.text ∙ append_assoc e.open_bytes (big_bytes 2 e.count ++ e.words) rest in
@@ -63,7 +73,8 @@ extension_read true part rest e =
     ap (big_number 2) behind ∙ big_number-reads_back 2 e.count (e.words ++ rest) e.count_fits in
     let total : extension_length (part ++ rest) ≡ 4 + 4 * e.count = ap (λ (n : ℕ). 4 + 4 * n) count in
     let inner : length (big_bytes 2 e.count ++ e.words) ≡ 2 + 4 * e.count = omega (arith, e.all_words) in
-    let long : length part ≡ 4 + 4 * e.count = ap length e.text ∙ omega (arith, length-append e.open_bytes (big_bytes 2 e.count ++ e.words), e.two_bytes, inner) in
+    let long : length part ≡ 4 + 4 * e.count = ap length e.text
+    ∙ omega (arith, length-append e.open_bytes (big_bytes 2 e.count ++ e.words), e.two_bytes, inner) in
     (ap (λ (n : ℕ). drop n (part ++ rest)) total ∙ drop_at part rest (4 + 4 * e.count) long, λ t. omega (arith, total, length-append part rest, long))
 extension_read false part rest e = (ap (λ (x : List ℕ). x ++ rest) e, λ t. absurd cc)
 
@@ -92,11 +103,13 @@ pub record StandsThere (bytes : List ℕ) (head : Head) (marker : Bool) (payload
   pub rest : payload_in bytes ≡ payload
 
 -- A packet's parts are at their places.
-pub IsRtp-stands : (bytes : List ℕ) (head : Head) (marker : Bool) (payload : List ℕ) → IsRtp bytes head marker payload → StandsThere bytes head marker payload
+pub IsRtp-stands : (bytes : List ℕ) (head : Head) (marker : Bool) (payload : List ℕ) → IsRtp bytes head marker payload
+    → StandsThere bytes head marker payload
 IsRtp-stands bytes head marker payload r =
     let tail : List ℕ = r.csrcs ++ (r.extension ++ (payload ++ r.padding)) in
     let front : BeginsWith bytes r.padded r.extended r.count marker head tail =
-    subst (λ (x : List ℕ). BeginsWith x r.padded r.extended r.count marker head tail) (sym r.text) (begins r.padded r.extended r.count marker head tail r.csrc_part.0 r.in_range) in
+    subst (λ (x : List ℕ). BeginsWith x r.padded r.extended r.count marker head tail) (sym r.text)
+    (begins r.padded r.extended r.count marker head tail r.csrc_part.0 r.in_range) in
     let start : csrc_end bytes ≡ 12 + 4 * r.count = ap (λ (n : ℕ). 12 + 4 * n) front.csrcs in
     let behind : behind_csrcs bytes ≡ r.extension ++ (payload ++ r.padding) =
     ap (λ (n : ℕ). drop n bytes) start ∙ sym (drop-drop (4 * r.count) 12 bytes) ∙ ap (drop (4 * r.count)) front.behind
@@ -109,7 +122,15 @@ IsRtp-stands bytes head marker payload r =
     let end : payload_in bytes ≡ payload =
     ap (λ (x : Bool). if x then before_padding (behind_extension bytes) else behind_extension bytes) front.padding_bit
     ∙ ap (λ (x : List ℕ). if r.padded then before_padding x else x) middle ∙ padding.0 in
-    let long : csrc_end bytes ≤ length bytes = omega (arith, start, ap length front.behind, length-drop 12 bytes, length-append r.csrcs (r.extension ++ (payload ++ r.padding)), r.csrc_part.1, front.long) in
+    let long : csrc_end bytes ≤ length bytes = omega (
+      arith,
+      start,
+      ap length front.behind,
+      length-drop 12 bytes,
+      length-append r.csrcs (r.extension ++ (payload ++ r.padding)),
+      r.csrc_part.1,
+      front.long,
+    ) in
     record {
       parts = (
         (
@@ -124,7 +145,8 @@ IsRtp-stands bytes head marker payload r =
     }
 
 -- No bytes have two readings.
-pub one_reading : (bytes : List ℕ) (h k : Head) (m n : Bool) (p q : List ℕ) → IsRtp bytes h m p → IsRtp bytes k n q → (h ≡ k) × (m ≡ n) × (p ≡ q)
+pub one_reading : (bytes : List ℕ) (h k : Head) (m n : Bool) (p q : List ℕ) → IsRtp bytes h m p → IsRtp bytes k n q
+    → (h ≡ k) × (m ≡ n) × (p ≡ q)
 one_reading bytes h k m n p q one other =
     let a = IsRtp-stands bytes h m p one in
     let b = IsRtp-stands bytes k n q other in
@@ -153,30 +175,33 @@ abbrev pub IsBytes : List ℕ → Type 0
 IsBytes bytes = (i : ℕ) → slice_index bytes i < 256
 
 IsBytes-drop : (n : ℕ) (bytes : List ℕ) → IsBytes bytes → IsBytes (drop n bytes)
-IsBytes-drop n bytes h i = rw get_or-drop (h (n + i))
+IsBytes-drop n bytes h = drop_each (λ (b : ℕ). b < 256) n bytes 0 h
 
 IsBytes-take : (n : ℕ) (bytes : List ℕ) → IsBytes bytes → IsBytes (take n bytes)
-IsBytes-take n bytes h i =
-    elim (cases_lt i n) [
-      | inl lt ↦ rw (get_or-take n bytes i 0 lt) (h i)
-      | inr le ↦ rw (get_or_past (take n bytes) i 0 (omega (arith, length-take n bytes))) (omega arith)
-    ]
+IsBytes-take n bytes h = take_each (λ (b : ℕ). b < 256) n bytes 0 (omega arith) h
 
 -- two bytes, as the number that they are, and what follows
 two_and_rest : (bytes : List ℕ) → 2 ≤ length bytes → IsBytes bytes → bytes ≡ big_bytes 2 (big_number 2 bytes) ++ drop 2 bytes
 two_and_rest bytes long h =
     let first : big_number 2 (take 2 bytes) ≡ big_number 2 bytes = rw (get_or-take 2 bytes 0 0 (omega arith), get_or-take 2 bytes 1 0 (omega arith)) refl in
     let front : big_bytes 2 (big_number 2 bytes) ≡ take 2 bytes =
-    ap (big_bytes 2) (sym first) ∙ be_bytes_2 (take 2 bytes) (big_number 2 (take 2 bytes)) (omega (arith, length-take 2 bytes)) (IsBytes-take 2 bytes h) (omega arith) in
+    ap (big_bytes 2) (sym first) ∙ be_bytes_2 (take 2 bytes) (big_number 2 (take 2 bytes)) (omega (arith, length-take 2 bytes)) (IsBytes-take 2 bytes h)
+    (omega arith) in
     sym (take-append-drop 2 bytes) ∙ ap (λ (x : List ℕ). x ++ drop 2 bytes) (sym front)
 
 -- four bytes in the same way
 four_and_rest : (bytes : List ℕ) → 4 ≤ length bytes → IsBytes bytes → bytes ≡ big_bytes 4 (big_number 4 bytes) ++ drop 4 bytes
 four_and_rest bytes long h =
     let first : big_number 4 (take 4 bytes) ≡ big_number 4 bytes =
-    rw (get_or-take 4 bytes 0 0 (omega arith), get_or-take 4 bytes 1 0 (omega arith), get_or-take 4 bytes 2 0 (omega arith), get_or-take 4 bytes 3 0 (omega arith)) refl in
+    rw (
+      get_or-take 4 bytes 0 0 (omega arith),
+      get_or-take 4 bytes 1 0 (omega arith),
+      get_or-take 4 bytes 2 0 (omega arith),
+      get_or-take 4 bytes 3 0 (omega arith),
+    ) refl in
     let front : big_bytes 4 (big_number 4 bytes) ≡ take 4 bytes =
-    ap (big_bytes 4) (sym first) ∙ be_bytes_4 (take 4 bytes) (big_number 4 (take 4 bytes)) (omega (arith, length-take 4 bytes)) (IsBytes-take 4 bytes h) (omega arith) in
+    ap (big_bytes 4) (sym first) ∙ be_bytes_4 (take 4 bytes) (big_number 4 (take 4 bytes)) (omega (arith, length-take 4 bytes)) (IsBytes-take 4 bytes h)
+    (omega arith) in
     sym (take-append-drop 4 bytes) ∙ ap (λ (x : List ℕ). x ++ drop 4 bytes) (sym front)
 
 bit_is : (x value : ℕ) → bit (x % 2 == 1) value ≡ x % 2 * value
@@ -197,16 +222,25 @@ fixed_part_there bytes long h two =
     let first : bytes ≡ get_or bytes 0 0 ∷ drop 1 bytes = drop-cons bytes 0 0 (omega arith) in
     let second : drop 1 bytes ≡ get_or bytes 1 0 ∷ drop 2 bytes = drop-cons bytes 1 0 (omega arith) in
     let sequence : drop 2 bytes ≡ big_bytes 2 (big_number 2 (drop 2 bytes)) ++ drop 4 bytes =
-    two_and_rest (drop 2 bytes) (omega (arith, length-drop 2 bytes)) (IsBytes-drop 2 bytes h) ∙ ap (λ (x : List ℕ). big_bytes 2 (big_number 2 (drop 2 bytes)) ++ x) (drop-drop 2 2 bytes) in
+    two_and_rest (drop 2 bytes) (omega (arith, length-drop 2 bytes)) (IsBytes-drop 2 bytes h)
+    ∙ ap (λ (x : List ℕ). big_bytes 2 (big_number 2 (drop 2 bytes)) ++ x) (drop-drop 2 2 bytes) in
     let timestamp : drop 4 bytes ≡ big_bytes 4 (big_number 4 (drop 4 bytes)) ++ drop 8 bytes =
-    four_and_rest (drop 4 bytes) (omega (arith, length-drop 4 bytes)) (IsBytes-drop 4 bytes h) ∙ ap (λ (x : List ℕ). big_bytes 4 (big_number 4 (drop 4 bytes)) ++ x) (drop-drop 4 4 bytes) in
+    four_and_rest (drop 4 bytes) (omega (arith, length-drop 4 bytes)) (IsBytes-drop 4 bytes h)
+    ∙ ap (λ (x : List ℕ). big_bytes 4 (big_number 4 (drop 4 bytes)) ++ x) (drop-drop 4 4 bytes) in
     let ssrc : drop 8 bytes ≡ big_bytes 4 (big_number 4 (drop 8 bytes)) ++ drop 12 bytes =
-    four_and_rest (drop 8 bytes) (omega (arith, length-drop 8 bytes)) (IsBytes-drop 8 bytes h) ∙ ap (λ (x : List ℕ). big_bytes 4 (big_number 4 (drop 8 bytes)) ++ x) (drop-drop 4 8 bytes) in
-    let behind : drop 2 bytes ≡ big_bytes 2 (big_number 2 (drop 2 bytes)) ++ (big_bytes 4 (big_number 4 (drop 4 bytes)) ++ (big_bytes 4 (big_number 4 (drop 8 bytes)) ++ drop 12 bytes)) =
-    sequence ∙ ap (λ (x : List ℕ). big_bytes 2 (big_number 2 (drop 2 bytes)) ++ x) (timestamp ∙ ap (λ (x : List ℕ). big_bytes 4 (big_number 4 (drop 4 bytes)) ++ x) ssrc) in
+    four_and_rest (drop 8 bytes) (omega (arith, length-drop 8 bytes)) (IsBytes-drop 8 bytes h)
+    ∙ ap (λ (x : List ℕ). big_bytes 4 (big_number 4 (drop 8 bytes)) ++ x) (drop-drop 4 8 bytes) in
+    let behind : drop 2 bytes ≡ big_bytes 2 (big_number 2 (drop 2 bytes))
+    ++ (big_bytes 4 (big_number 4 (drop 4 bytes)) ++ (big_bytes 4 (big_number 4 (drop 8 bytes)) ++ drop 12 bytes)) =
+    sequence ∙ ap (λ (x : List ℕ). big_bytes 2 (big_number 2 (drop 2 bytes)) ++ x) (timestamp
+    ∙ ap (λ (x : List ℕ). big_bytes 4 (big_number 4 (drop 4 bytes)) ++ x) ssrc) in
     first ∙ ap (λ (x : List ℕ). get_or bytes 0 0 ∷ x) (second ∙ ap (λ (x : List ℕ). get_or bytes 1 0 ∷ x) behind)
-    ∙ ap (λ (b : ℕ). b ∷ get_or bytes 1 0 ∷ (big_bytes 2 (big_number 2 (drop 2 bytes)) ++ (big_bytes 4 (big_number 4 (drop 4 bytes)) ++ (big_bytes 4 (big_number 4 (drop 8 bytes)) ++ drop 12 bytes)))) (sym (first_byte_back (get_or bytes 0 0) (h 0) two))
-    ∙ ap (λ (b : ℕ). (2 * 64 + bit (is_padded bytes) 32 + bit (is_extended bytes) 16 + get_or bytes 0 0 % 16) ∷ b ∷ (big_bytes 2 (big_number 2 (drop 2 bytes)) ++ (big_bytes 4 (big_number 4 (drop 4 bytes)) ++ (big_bytes 4 (big_number 4 (drop 8 bytes)) ++ drop 12 bytes)))) (sym (second_byte_back (get_or bytes 1 0) (h 1)))
+    ∙ ap (λ (b : ℕ). b ∷ get_or bytes 1 0 ∷ (big_bytes 2 (big_number 2 (drop 2 bytes))
+    ++ (big_bytes 4 (big_number 4 (drop 4 bytes)) ++ (big_bytes 4 (big_number 4 (drop 8 bytes)) ++ drop 12 bytes))))
+    (sym (first_byte_back (get_or bytes 0 0) (h 0) two))
+    ∙ ap (λ (b : ℕ). (2 * 64 + bit (is_padded bytes) 32 + bit (is_extended bytes) 16 + get_or bytes 0 0 % 16) ∷ b ∷
+    (big_bytes 2 (big_number 2 (drop 2 bytes)) ++ (big_bytes 4 (big_number 4 (drop 4 bytes))
+    ++ (big_bytes 4 (big_number 4 (drop 8 bytes)) ++ drop 12 bytes)))) (sym (second_byte_back (get_or bytes 1 0) (h 1)))
 
 -- An extension part in front of a text, by the extension bit.
 record HasExtensionFront (extended : Bool) (text : List ℕ) : Type 0 where
@@ -214,18 +248,21 @@ record HasExtensionFront (extended : Bool) (text : List ℕ) : Type 0 where
   is_part : IsExtensionPart extended part
   front : text ≡ part ++ (if extended then drop (extension_length text) text else text)
 
-extension_there : (extended : Bool) (text : List ℕ) → IsBytes text → (IsTrue extended → extension_length text ≤ length text) → HasExtensionFront extended text
+extension_there : (extended : Bool) (text : List ℕ) → IsBytes text → (IsTrue extended → extension_length text ≤ length text)
+    → HasExtensionFront extended text
 extension_there false text h fits = record { part = []; is_part = refl; front = refl }
 extension_there true text h fits =
     let long : extension_length text ≤ length text = fits refl in
     let count : ℕ = big_number 2 (drop 2 text) in
     let opened : text ≡ take 2 text ++ drop 2 text = sym (take-append-drop 2 text) in
     let counted : drop 2 text ≡ big_bytes 2 count ++ drop 4 text =
-    two_and_rest (drop 2 text) (omega (arith, length-drop 2 text, long)) (IsBytes-drop 2 text h) ∙ ap (λ (x : List ℕ). big_bytes 2 count ++ x) (drop-drop 2 2 text) in
+    two_and_rest (drop 2 text) (omega (arith, length-drop 2 text, long)) (IsBytes-drop 2 text h)
+    ∙ ap (λ (x : List ℕ). big_bytes 2 count ++ x) (drop-drop 2 2 text) in
     let words : drop 4 text ≡ take (4 * count) (drop 4 text) ++ drop (4 + 4 * count) text =
     sym (take-append-drop (4 * count) (drop 4 text)) ∙ ap (λ (x : List ℕ). take (4 * count) (drop 4 text) ++ x) (drop-drop (4 * count) 4 text) in
     let inner : drop 2 text ≡ (big_bytes 2 count ++ take (4 * count) (drop 4 text)) ++ drop (4 + 4 * count) text =
-    counted ∙ ap (λ (x : List ℕ). big_bytes 2 count ++ x) words ∙ sym (append_assoc (big_bytes 2 count) (take (4 * count) (drop 4 text)) (drop (4 + 4 * count) text)) in
+    counted ∙ ap (λ (x : List ℕ). big_bytes 2 count ++ x) words
+    ∙ sym (append_assoc (big_bytes 2 count) (take (4 * count) (drop 4 text)) (drop (4 + 4 * count) text)) in
     record {
       part = take 2 text ++ (big_bytes 2 count ++ take (4 * count) (drop 4 text));
       is_part = record {
@@ -237,7 +274,8 @@ extension_there true text h fits =
         all_words = omega (arith, length-take (4 * count) (drop 4 text), length-drop 4 text, long);
         text = refl;
       };
-      front = opened ∙ ap (λ (x : List ℕ). take 2 text ++ x) inner ∙ sym (append_assoc (take 2 text) (big_bytes 2 count ++ take (4 * count) (drop 4 text)) (drop (4 + 4 * count) text));
+      front = opened ∙ ap (λ (x : List ℕ). take 2 text ++ x) inner
+          ∙ sym (append_assoc (take 2 text) (big_bytes 2 count ++ take (4 * count) (drop 4 text)) (drop (4 + 4 * count) text));
     }
 
 -- A padding part at the end of a text, by the padding bit.
@@ -263,7 +301,13 @@ padding_there true text h fits =
     let number : get_or part (count - 1) 0 ≡ length (take (count - 1) part) + 1 = last ∙ omega (arith, filler, is) in
     record {
       part = part;
-      is_part = (take (count - 1) part, omega (arith, filler, small, is), split ∙ ap (λ (x : List ℕ). take (count - 1) part ++ x) (one ∙ ap (λ (x : List ℕ). get_or part (count - 1) 0 ∷ x) none ∙ ap (λ (n : ℕ). n ∷ []) number));
+      is_part = (
+        take (count - 1) part,
+        omega (arith, filler, small, is),
+        split
+            ∙ ap (λ (x : List ℕ). take (count - 1) part ++ x) (one ∙ ap (λ (x : List ℕ). get_or part (count - 1) 0 ∷ x) none
+            ∙ ap (λ (n : ℕ). n ∷ []) number),
+      );
       end = sym (take-append-drop (length text - count) text);
     }
 
@@ -276,12 +320,14 @@ pub HasAllParts-IsRtp : (bytes : List ℕ) → IsBytes bytes → HasAllParts byt
 HasAllParts-IsRtp bytes h parts =
     let count : ℕ = slice_index bytes 0 % 16 in
     let few : count < 16 = omega arith in
-    let long : 12 ≤ length bytes = parts.0.0.0.0 in
-    let fixed = fixed_part_there bytes long h parts.0.0.0.1 in
+    let until_csrcs = parts.0.0 in
+    let long : 12 ≤ length bytes = until_csrcs.0.0 in
+    let fixed = fixed_part_there bytes long h until_csrcs.0.1 in
     let csrcs : drop 12 bytes ≡ take (4 * count) (drop 12 bytes) ++ behind_csrcs bytes =
     sym (take-append-drop (4 * count) (drop 12 bytes)) ∙ ap (λ (x : List ℕ). take (4 * count) (drop 12 bytes) ++ x) (drop-drop (4 * count) 12 bytes) in
     let extension = extension_there (is_extended bytes) (behind_csrcs bytes) (IsBytes-drop (csrc_end bytes) bytes h) parts.0.1 in
-    let rest_bytes : IsBytes (behind_extension bytes) = either_bytes (is_extended bytes) (extension_length (behind_csrcs bytes)) (behind_csrcs bytes) (IsBytes-drop (csrc_end bytes) bytes h) in
+    let rest_bytes : IsBytes (behind_extension bytes) =
+    either_bytes (is_extended bytes) (extension_length (behind_csrcs bytes)) (behind_csrcs bytes) (IsBytes-drop (csrc_end bytes) bytes h) in
     let padding = padding_there (is_padded bytes) (behind_extension bytes) rest_bytes parts.1 in
     record {
       padded = is_padded bytes;
@@ -290,11 +336,17 @@ HasAllParts-IsRtp bytes h parts =
       csrcs = take (4 * count) (drop 12 bytes);
       extension = extension.part;
       padding = padding.part;
-      in_range = (omega arith, big_from-lt 0 2 (drop 2 bytes) (IsBytes-drop 2 bytes h), big_from-lt 0 4 (drop 4 bytes) (IsBytes-drop 4 bytes h), big_from-lt 0 4 (drop 8 bytes) (IsBytes-drop 8 bytes h));
-      csrc_part = (few, omega (arith, length-take (4 * count) (drop 12 bytes), length-drop 12 bytes, parts.0.0.1));
+      in_range = (
+        omega arith,
+        big_from-lt 0 2 (drop 2 bytes) (IsBytes-drop 2 bytes h),
+        big_from-lt 0 4 (drop 4 bytes) (IsBytes-drop 4 bytes h),
+        big_from-lt 0 4 (drop 8 bytes) (IsBytes-drop 8 bytes h),
+      );
+      csrc_part = (few, omega (arith, length-take (4 * count) (drop 12 bytes), length-drop 12 bytes, until_csrcs.1));
       extension_part = extension.is_part;
       padding_part = padding.is_part;
       text =
           fixed ∙ ap (λ (x : List ℕ). fixed_part (is_padded bytes) (is_extended bytes) count (is_marked bytes) (head_in bytes) ++ x)
-          (csrcs ∙ ap (λ (x : List ℕ). take (4 * count) (drop 12 bytes) ++ x) (extension.front ∙ ap (λ (x : List ℕ). extension.part ++ x) padding.end));
+          (csrcs ∙ ap (λ (x : List ℕ). take (4 * count) (drop 12 bytes) ++ x) (extension.front
+          ∙ ap (λ (x : List ℕ). extension.part ++ x) padding.end));
     }

@@ -1,5 +1,6 @@
 -- Samples that were put are got again, and how long a payload is.
-use Rattle.std.proofs.Common.{◌≡◌, ◌<◌, ◌≤◌, ℕ, zero, suc, ◌+◌, ◌*◌, List, [], ◌∷◌, ◌++◌, length, get_or, take, drop, ℤ, pos, negsuc, refl, sym, ap, ◌∙◌, arith}
+use Rattle.std.proofs.Common.{◌≡◌, ◌<◌, ◌≤◌, ℕ, zero, suc, ◌+◌, ◌*◌, List, [], ◌∷◌}
+use Rattle.std.proofs.Common.{◌++◌, length, get_or, take, drop, ℤ, pos, negsuc, refl, sym, ap, ◌∙◌, arith}
 use Rattle.std.specs.Prelude.{◌*ℤ◌, ◌≤ℤ◌, ◌<ℤ◌}
 use Rattle.std.specs.Int.{w64, int_div_euclid}
 use Rattle.std.proofs.lemmas.List.{append-nil, drop_at, drop-drop}
@@ -65,16 +66,19 @@ next L16 n = omega arith
 next L24 n = omega arith
 
 -- The sample at a place of a payload is the one that was put there, as far as the stream keeps it.
-pub sample_in_payload : (width : Width) (samples : List ℤ) (at : ℕ) → at < length samples → ((i : ℕ) → i < length samples → IsSample (get_or samples i (pos 0)))
+pub sample_in_payload : (width : Width) (samples : List ℤ) (at : ℕ) → at < length samples
+    → ((i : ℕ) → i < length samples → IsSample (get_or samples i (pos 0)))
     → sample_of width (drop (at * bytes_per_sample width) (payload_of width samples)) ≡ kept_sample width (get_or samples at (pos 0))
 unfolding payload_of
 sample_in_payload width [] at h fits = absurd (omega arith)
 sample_in_payload width (z ∷ samples) zero h fits =
     let none : 0 * bytes_per_sample width ≡ 0 = omega arith in
-    ap (λ (n : ℕ). sample_of width (drop n (payload_of width (z ∷ samples)))) none ∙ sample_again width z (payload_of width samples) (fits 0 (omega arith))
+    ap (λ (n : ℕ). sample_of width (drop n (payload_of width (z ∷ samples)))) none
+    ∙ sample_again width z (payload_of width samples) (fits 0 (omega arith))
 sample_in_payload width (z ∷ samples) (suc at) h fits =
     let step : suc at * bytes_per_sample width ≡ bytes_per_sample width + at * bytes_per_sample width = next width at in
     ap (λ (n : ℕ). sample_of width (drop n (payload_of width (z ∷ samples)))) step
     ∙ ap (sample_of width) (sym (drop-drop (at * bytes_per_sample width) (bytes_per_sample width) (payload_of width (z ∷ samples)))
-    ∙ ap (drop (at * bytes_per_sample width)) (drop_at (bytes_of_sample width z) (payload_of width samples) (bytes_per_sample width) (length-bytes_of_sample width z)))
+    ∙ ap (drop (at * bytes_per_sample width)) (drop_at (bytes_of_sample width z) (payload_of width samples) (bytes_per_sample width)
+    (length-bytes_of_sample width z)))
     ∙ sample_in_payload width samples at (omega arith) (λ i lt. fits (suc i) (omega arith))

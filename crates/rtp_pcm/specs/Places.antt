@@ -1,6 +1,7 @@
--- Where the parts of a packet lie in its bytes, and the faults of bytes that are none. (RFC 3550, sections 5.1
--- and 5.3.1)
-use Rattle.std.specs.Prelude.{◌≡◌, ◌≢◌, ◌≤◌, ◌<◌, ◌⊎◌, ℕ, ◌+◌, ◌-◌, ◌*◌, ◌/◌, ◌%◌, Bool, ◌==◌, IsTrue, if◌then◌else◌, List, length, take, drop, slice_index}
+-- Where the parts of a packet lie in its bytes, and the faults of bytes that are none. (RFC 3550,
+-- sections 5.1 and 5.3.1)
+use Rattle.std.specs.Prelude.{◌≡◌, ◌≢◌, ◌≤◌, ◌<◌, ◌⊎◌, ℕ, ◌+◌, ◌-◌, ◌*◌, ◌/◌, ◌%◌, Bool, ◌==◌}
+use Rattle.std.specs.Prelude.{IsTrue, if◌then◌else◌, List, length, take, drop, slice_index}
 use Rattle.byteorder.specs.Endian.{big_number}
 use Rattle.rtp_pcm.specs.declared.packet.Head.{Head}
 
@@ -47,7 +48,8 @@ extension_length text = 4 + 4 * big_number 2 (drop 2 text)
 
 -- what stands behind the extension, where there is one: payload and padding
 abbrev pub behind_extension : List ℕ → List ℕ
-behind_extension bytes = if is_extended bytes then drop (extension_length (behind_csrcs bytes)) (behind_csrcs bytes) else behind_csrcs bytes
+behind_extension bytes = if is_extended bytes
+    then drop (extension_length (behind_csrcs bytes)) (behind_csrcs bytes) else behind_csrcs bytes
 
 -- the last byte, and 0 where there is none
 abbrev pub last_byte : List ℕ → ℕ
@@ -59,7 +61,8 @@ before_padding text = take (length text - last_byte text) text
 
 -- the payload: what stands behind the extension, without padding
 abbrev pub payload_in : List ℕ → List ℕ
-payload_in bytes = if is_padded bytes then before_padding (behind_extension bytes) else behind_extension bytes
+payload_in bytes = if is_padded bytes then before_padding (behind_extension bytes)
+    else behind_extension bytes
 
 -- ---- what is there
 
@@ -78,7 +81,9 @@ HasCsrcPart bytes = HasVersion bytes × (csrc_end bytes ≤ length bytes)
 -- and the extension, where its bit is set
 abbrev pub HasExtensionPart : List ℕ → Type 0
 HasExtensionPart bytes =
-    HasCsrcPart bytes × (IsTrue (is_extended bytes) → extension_length (behind_csrcs bytes) ≤ length (behind_csrcs bytes))
+    HasCsrcPart bytes
+    × (IsTrue (is_extended bytes)
+    → extension_length (behind_csrcs bytes) ≤ length (behind_csrcs bytes))
 
 -- the last byte counts padding: at least itself, and no more bytes than there are
 abbrev pub IsPadded : List ℕ → Type 0
@@ -86,7 +91,8 @@ IsPadded text = (1 ≤ last_byte text) × (last_byte text ≤ length text)
 
 -- and the padding, where its bit is set: so all parts
 abbrev pub HasAllParts : List ℕ → Type 0
-HasAllParts bytes = HasExtensionPart bytes × (IsTrue (is_padded bytes) → IsPadded (behind_extension bytes))
+HasAllParts bytes = HasExtensionPart bytes
+    × (IsTrue (is_padded bytes) → IsPadded (behind_extension bytes))
 
 -- ---- the faults: what is there up to a part, and that the part isn't
 
@@ -105,10 +111,12 @@ IsCsrcCut bytes = HasVersion bytes × (length bytes < csrc_end bytes)
 -- the bytes end within the extension
 abbrev pub IsExtensionCut : List ℕ → Type 0
 IsExtensionCut bytes =
-    HasCsrcPart bytes × IsTrue (is_extended bytes) × (length (behind_csrcs bytes) < extension_length (behind_csrcs bytes))
+    HasCsrcPart bytes × IsTrue (is_extended bytes)
+    × (length (behind_csrcs bytes) < extension_length (behind_csrcs bytes))
 
 -- the last byte is missing, 0, or more than the bytes there
 abbrev pub IsWrongPadding : List ℕ → Type 0
 IsWrongPadding bytes =
     HasExtensionPart bytes × IsTrue (is_padded bytes)
-    × ((last_byte (behind_extension bytes) ≡ 0) ⊎ (length (behind_extension bytes) < last_byte (behind_extension bytes)))
+    × ((last_byte (behind_extension bytes) ≡ 0)
+    ⊎ (length (behind_extension bytes) < last_byte (behind_extension bytes)))

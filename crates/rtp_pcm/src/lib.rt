@@ -1,4 +1,5 @@
-//! RTP packets and the PCM samples in them, exact: heads of RFC 3550, samples of RFC 3551 (L16) and RFC 3190 (L24).
+//! RTP packets and the PCM samples in them, exact: heads of RFC 3550, samples of RFC 3551 (L16) and
+//! RFC 3190 (L24).
 #![tactic(auto)]
 
 mod packet;

@@ -1,12 +1,18 @@
 //! RTP packets (RFC 3550).
 
-ghost use Rattle.std.specs.Prelude.{◌≡◌, ◌≤◌, ◌<◌, ◌+◌, ◌*◌, ◌/◌, ◌%◌, ◌==◌, ◌↔◌, IfOk, IsOkAnd, IfSome, IfNone, IsOk, OnErr, Some, None, Bool, false, List, ℕ, drop, length, slice_index, ⊤};
+ghost use Rattle.std.specs.Prelude.{◌≡◌, ◌≤◌, ◌<◌, ◌+◌, ◌*◌, ◌/◌, ◌%◌, ◌==◌, ◌↔◌, IfOk};
+ghost use Rattle.std.specs.Prelude.{IsOkAnd, IfSome, IfNone, IsOk, OnErr, Some, None};
+ghost use Rattle.std.specs.Prelude.{Bool, false, List, ℕ, drop, length, slice_index, ⊤};
 ghost use Rattle.std.specs.Result.{IsErrOf};
 ghost use Rattle.rtp_pcm.specs.Packet.{IsRtp, rtp_packet};
-ghost use Rattle.rtp_pcm.specs.Places.{HasAllParts, IsShort, IsOtherVersion, IsCsrcCut, IsExtensionCut, IsWrongPadding, IsPadded, head_in, is_marked, payload_in, extension_length, before_padding, last_byte};
+ghost use Rattle.rtp_pcm.specs.Places.{HasAllParts, IsShort, IsOtherVersion};
+ghost use Rattle.rtp_pcm.specs.Places.{IsCsrcCut, IsExtensionCut, IsWrongPadding};
+ghost use Rattle.rtp_pcm.specs.Places.{IsPadded, head_in, is_marked, payload_in};
+ghost use Rattle.rtp_pcm.specs.Places.{extension_length, before_padding, last_byte};
 ghost use Rattle.rtp_pcm.specs.Reading.{reading_of};
 ghost use Rattle.rtp_pcm.specs.declared.packet.Head.{Head};
-ghost use Rattle.rtp_pcm.specs.declared.packet.RtpFault.TheVariants.{Short, Version, CsrcCut, ExtensionCut, Padding};
+ghost use Rattle.rtp_pcm.specs.declared.packet.RtpFault.TheVariants.{Short, Version, CsrcCut};
+ghost use Rattle.rtp_pcm.specs.declared.packet.RtpFault.TheVariants.{ExtensionCut, Padding};
 
 use byteorder::{BigEndian, ByteOrder};
 use thiserror::Error;
@@ -38,7 +44,8 @@ const WORD_LEN: usize = 4;
 /// The bytes of an extension in front of its words.
 const EXTENSION_HEAD_LEN: usize = 4;
 
-/// What a head says beside its marker: payload type (7 bits), sequence number, timestamp in frames, and source.
+/// What a head says beside its marker: payload type (7 bits), sequence number, timestamp in frames,
+/// and source.
 #[derive(Clone, Copy, Debug, PartialEq, Eq)]
 pub struct Head {
     pub payload_type: u8,
@@ -70,7 +77,8 @@ pub enum RtpFault {
     /// The bytes end within the extension part.
     #[error("the bytes end within the extension")]
     ExtensionCut,
-    /// The padding bit is set, and the last byte behind the head is missing, 0, or more than the bytes there.
+    /// The padding bit is set, and the last byte behind the head is missing, 0, or more than the
+    /// bytes there.
     #[error("the count of padding is missing, 0, or more than the bytes there")]
     Padding,
 }
@@ -85,7 +93,8 @@ fn has_bit(byte: u8, bit: u8) -> bool
 
 /// What stands behind the first bytes, and `None` where there are not so many.
 fn behind(bytes: &[u8], len: usize) -> Option<&[u8]>
-    ensures some { IfSome result (λ rest. (len ≤ length bytes.now) × (rest.now ≡ drop len bytes.now)) }
+    ensures some { IfSome result
+        (λ rest. (len ≤ length bytes.now) × (rest.now ≡ drop len bytes.now)) }
     ensures none { IfNone result (length bytes.now < len) }
 {
     if len <= bytes.len() {
@@ -97,7 +106,9 @@ fn behind(bytes: &[u8], len: usize) -> Option<&[u8]>
 
 /// What stands behind an extension, and `None` where the bytes end within it.
 fn behind_words(bytes: &[u8]) -> Option<&[u8]>
-    ensures some { IfSome result (λ rest. (extension_length bytes.now ≤ length bytes.now) × (rest.now ≡ drop (extension_length bytes.now) bytes.now)) }
+    ensures some { IfSome result
+        (λ rest. (extension_length bytes.now ≤ length bytes.now)
+        × (rest.now ≡ drop (extension_length bytes.now) bytes.now)) }
     ensures none { IfNone result (length bytes.now < extension_length bytes.now) }
 {
     if bytes.len() < EXTENSION_HEAD_LEN {
@@ -107,9 +118,11 @@ fn behind_words(bytes: &[u8]) -> Option<&[u8]>
     behind(bytes, EXTENSION_HEAD_LEN + WORD_LEN * words)
 }
 
-/// What stands before the padding that the last byte counts, and `None` where it counts none or too much.
+/// What stands before the padding that the last byte counts, and `None` where it counts none or too
+/// much.
 fn unpadded(bytes: &[u8]) -> Option<&[u8]>
-    ensures some { IfSome result (λ rest. IsPadded bytes.now × (rest.now ≡ before_padding bytes.now)) }
+    ensures some { IfSome result
+        (λ rest. IsPadded bytes.now × (rest.now ≡ before_padding bytes.now)) }
     ensures none { IfNone result (IsPadded bytes.now → ⊥) }
 {
     if bytes.is_empty() {
@@ -139,7 +152,9 @@ fn read_head(bytes: &[u8]) -> Head
 /// Reads the parts of a packet from the front.
 fn walk(bytes: &[u8]) -> Result<Packet<'_>, RtpFault>
     ensures ok { IsOk result ↔ HasAllParts bytes.now }
-    ensures parts { IfOk result (λ p. (p.head ≡ head_in bytes.now) × (p.marker ≡ is_marked bytes.now) × (p.payload.now ≡ payload_in bytes.now)) }
+    ensures parts { IfOk result
+        (λ p. (p.head ≡ head_in bytes.now) × (p.marker ≡ is_marked bytes.now)
+        × (p.payload.now ≡ payload_in bytes.now)) }
     ensures short { IsErrOf result Short ↔ IsShort bytes.now }
     ensures version { IsErrOf result Version ↔ IsOtherVersion bytes.now }
     ensures csrcs { IsErrOf result CsrcCut ↔ IsCsrcCut bytes.now }
@@ -176,12 +191,17 @@ fn walk(bytes: &[u8]) -> Result<Packet<'_>, RtpFault>
     })
 }
 
-/// Reads a packet (RFC 3550 sections 5.1 and 5.3.1). The payload is a part of the bytes. `Ok` exactly where the bytes have
-/// a reading, and each fault exactly in its case, in the order of `RtpFault`.
+/// Reads a packet (RFC 3550 sections 5.1 and 5.3.1). The payload is a part of the bytes. `Ok`
+/// exactly where the bytes have a reading, and each fault exactly in its case, in the order of
+/// `RtpFault`.
 pub fn read_packet(bytes: &[u8]) -> Result<Packet<'_>, RtpFault>
     ensures found { IfOk result (λ p. IsRtp bytes.now p.head p.marker p.payload.now) }
-    ensures only { (head : Head) (marker : Bool) (payload : List ℕ) → IsRtp bytes.now head marker payload → IsOkAnd result (λ p. (p.head ≡ head) × (p.marker ≡ marker) × (p.payload.now ≡ payload)) }
-    ensures reading { IfOk result (λ p. reading_of bytes.now ≡ Some (record { head = p.head; marker = p.marker; payload = p.payload.now })) }
+    ensures only { (head : Head) (marker : Bool) (payload : List ℕ)
+        → IsRtp bytes.now head marker payload
+        → IsOkAnd result (λ p. (p.head ≡ head) × (p.marker ≡ marker) × (p.payload.now ≡ payload)) }
+    ensures reading { IfOk result
+        (λ p. reading_of bytes.now
+        ≡ Some (record { head = p.head; marker = p.marker; payload = p.payload.now })) }
     ensures no_reading { OnErr result (reading_of bytes.now ≡ None) }
     ensures short { IsErrOf result Short ↔ IsShort bytes.now }
     ensures version { IsErrOf result Version ↔ IsOtherVersion bytes.now }
@@ -192,8 +212,8 @@ pub fn read_packet(bytes: &[u8]) -> Result<Packet<'_>, RtpFault>
     walk(bytes)
 }
 
-/// Writes the fixed part of a packet (RFC 3550 section 5.1) into the first 12 bytes: version 2, no marker, no CSRCs, no
-/// extension and no padding. What stands behind them, the payload, stays.
+/// Writes the fixed part of a packet (RFC 3550 section 5.1) into the first 12 bytes: version 2, no
+/// marker, no CSRCs, no extension and no padding. What stands behind them, the payload, stays.
 pub fn write_head(out: &mut [u8], head: &Head)
     requires room { 12 ≤ length out.old }
     requires seven_bits { head.now.payload_type < 128 }

@@ -16,8 +16,8 @@ const L16_SCALE: i32 = 256;
 #[error("the payload ends within a frame")]
 pub struct PartFrame;
 
-/// The sample in the bytes of one: 2 bytes of L16 (RFC 3551 section 4.5.11), taken times 256, or 3 bytes of L24 (RFC
-/// 3190 section 4). The answer is a signed number of 24 bits.
+/// The sample in the bytes of one: 2 bytes of L16 (RFC 3551 section 4.5.11), taken times 256, or 3
+/// bytes of L24 (RFC 3190 section 4). The answer is a signed number of 24 bits.
 pub fn get_sample(bytes: &[u8], width: Width) -> i32
     requires { length bytes.now ≡ bytes_per_sample width }
     ensures value { result ≡ sample_of width bytes.now }
@@ -30,8 +30,8 @@ pub fn get_sample(bytes: &[u8], width: Width) -> i32
     }
 }
 
-/// Puts a sample, a signed number of 24 bits, as its 2 or 3 bytes: whole as L24, and divided by 256 and rounded down as
-/// L16.
+/// Puts a sample, a signed number of 24 bits, as its 2 or 3 bytes: whole as L24, and divided by 256
+/// and rounded down as L16.
 pub fn put_sample(out: &mut [u8], width: Width, value: i32)
     requires room { length out.old ≡ bytes_per_sample width }
     requires sample { IsSample value }
@@ -44,11 +44,12 @@ pub fn put_sample(out: &mut [u8], width: Width, value: i32)
     }
 }
 
-/// How many frames a payload has, of one sample for each channel. Refused exactly where its length is no multiple of the
-/// bytes of a frame.
+/// How many frames a payload has, of one sample for each channel. Refused exactly where its length
+/// is no multiple of the bytes of a frame.
 pub fn frames_in(payload: &[u8], channels: u8, width: Width) -> Result<usize, PartFrame>
     requires { 1 ≤ channels }
-    ensures whole { IfOk result (λ frames. length payload.now ≡ frames * (channels * bytes_per_sample width)) }
+    ensures whole { IfOk result
+        (λ frames. length payload.now ≡ frames * (channels * bytes_per_sample width)) }
     ensures part { IsErr result ↔ (length payload.now % (channels * bytes_per_sample width) ≢ 0) }
 {
     let frame_len = usize::from(channels) * width.bytes();

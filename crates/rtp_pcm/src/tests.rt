@@ -104,7 +104,8 @@ fn head_written_and_read_again(rt: HostRuntime) {
     assert_eq!(rt; read_packet(&bytes), Ok(packet));
 }
 
-/// Bytes that are no packet: what each row begins with, how many bytes of the value follow, and the fault.
+/// Bytes that are no packet: what each row begins with, how many bytes of the value follow, and the
+/// fault.
 #[test]
 fn bad_input(rt: HostRuntime) {
     let rows: [(&[u8], u8, usize, RtpFault); 17] = [

@@ -28,15 +28,17 @@ pub found_at : {E : Type 0} (text : List ℕ) (r : Result TaiTime E) → HasColo
 found_at text (Err e) there ok parts = tt
 found_at text (Ok time) there ok parts =
     let all = ok refl in
+    let digits = all.0.0 in
     says-IsTaiText text time (record {
       there = there;
-      before_digits = all.0.0.0;
-      after_digits = all.0.0.1;
+      before_digits = digits.0;
+      after_digits = digits.1;
       secs = sym parts.0;
       nanos = sym parts.1;
       in_range = (subst (λ (n : ℕ). n < 2 ^ 40) (sym parts.0) all.0.1, subst (λ (n : ℕ). n < 10 ^ 9) (sym parts.1) all.1);
     })
 
+-- a time that was read
 abbrev as_ok : {E : Type 0} → TaiTime → Result TaiTime E
 as_ok time = Ok time
 
@@ -46,7 +48,10 @@ pub only_at : {E : Type 0} (text : List ℕ) (r : Result TaiTime E) (time : TaiT
     → IsTaiText text time → r ≡ Ok time
 only_at text (Err e) time ok parts is =
     let s = IsTaiText-says text time is in
-    let fine = ok (((s.before_digits, s.after_digits), subst (λ (n : ℕ). n < 2 ^ 40) (sym s.secs) s.in_range.0), subst (λ (n : ℕ). n < 10 ^ 9) (sym s.nanos) s.in_range.1) in
+    let fine = ok (
+      ((s.before_digits, s.after_digits), subst (λ (n : ℕ). n < 2 ^ 40) (sym s.secs) s.in_range.0),
+      subst (λ (n : ℕ). n < 10 ^ 9) (sym s.nanos) s.in_range.1,
+    ) in
     absurd cc
 only_at {E} text (Ok got) time ok parts is =
     let s = IsTaiText-says text time is in

@@ -1,5 +1,6 @@
 -- What is written is the text of the time, and a text has one time.
-use Rattle.std.proofs.Common.{◌≡◌, ◌<◌, ℕ, ◌+◌, ◌/◌, ◌%◌, ◌^◌, true, false, cond, List, [], ◌∷◌, ◌++◌, length, get_or, take, drop, Some, None, refl, sym, ap, subst, ◌∙◌, arith, inl, inr, ltb}
+use Rattle.std.proofs.Common.{◌≡◌, ◌<◌, ℕ, ◌+◌, ◌/◌, ◌%◌, ◌^◌, true, false, cond, List, [], ◌∷◌}
+use Rattle.std.proofs.Common.{◌++◌, length, get_or, take, drop, Some, None, refl, sym, ap, subst, ◌∙◌, arith, inl, inr, ltb}
 use Rattle.std.specs.Prelude.{decimal}
 use Rattle.std.specs.Char.{digit_value}
 use Rattle.std.specs.Int.{IsInRange}
@@ -24,6 +25,7 @@ time_of-nanos_of time h =
     let nanos : nanos_of time % 10 ^ 9 ≡ time.nanos = omega (arith, h.1) in
     rw (secs, nanos) refl
 
+-- the time of these seconds and nanoseconds
 abbrev time_from : ℕ → ℕ → TaiTime
 time_from secs nanos = record { secs = secs; nanos = nanos }
 
@@ -90,7 +92,8 @@ colon_between text h =
     split_at_first is_colon text 0 within ∙ ap (λ (b : ℕ). secs_part text ++ b ∷ nanos_part text) (eqb-true _ _ is)
 
 -- Where the first colon was found.
-pub colon_found : (text : List ℕ) (at : ℕ) → position is_colon text ≡ Some at → HasColon text × (at ≡ position_or_len is_colon text) × (at < length text)
+pub colon_found : (text : List ℕ) (at : ℕ) → position is_colon text ≡ Some at → HasColon text × (at ≡ position_or_len is_colon text)
+    × (at < length text)
 colon_found text at e =
     let found = position-Some is_colon text at colon e in
     ((at, found.0, eqb-true _ _ found.1), sym (position_or_len_is is_colon text at colon (omega (arith, found.0)) found.2 (λ lt. found.1)), found.0)
@@ -113,7 +116,8 @@ pub record Says (text : List ℕ) (time : TaiTime) : Type 0 where
 
 pub IsTaiText-says : (text : List ℕ) (time : TaiTime) → IsTaiText text time → Says text time
 IsTaiText-says text time t =
-    let cut : IsCut text t.before t.after = subst (λ (x : List ℕ). IsCut x t.before t.after) (sym t.parts) (IsCut-digits t.before t.after t.before_digits.1) in
+    let cut : IsCut text t.before t.after = subst (λ (x : List ℕ). IsCut x t.before t.after) (sym t.parts)
+    (IsCut-digits t.before t.after t.before_digits.1) in
     record {
       there = cut.there;
       before_digits = subst (IsNumeral 10) (sym cut.first) t.before_digits;

@@ -1,22 +1,15 @@
 -- The units of a time, by their inequalities.
 use Rattle.std.proofs.Common.{◌≡◌, ◌<◌, ◌≤◌, ℕ, ◌+◌, ◌*◌, ◌/◌, ◌%◌, ◌^◌, arith, inl, inr}
-use Rattle.std.proofs.Math.Nat.{add-mul, mul-le-mul_right, div-mul-le_self, div-add-mod', mod-lt}
+use Rattle.std.proofs.Math.Nat.{mul-le-mul_right, div-mul-le_self, div-add-mod', mod-lt}
 use Rattle.std.proofs.lemmas.Bool.{cases_lt}
 use Rattle.std.proofs.lemmas.Nat.{le-div}
 use Rattle.std.proofs.lemmas.Grind.{div_ceil_times}
+use Rattle.list_laws.proofs.Parts.{part_most, part_within}
 use Rattle.tai_time.specs.Unit.{unit_start, unit_up, unit_of, IsUnitUp, IsUnitOf}
 
--- a multiple that comes after another comes a whole divisor after it
-apart : (u v d : ℕ) → v < u → v * d + d ≤ u * d
-apart u v d h =
-    let more : (v + 1) * d ≤ u * d = mul-le-mul_right d (omega arith) in
-    omega (arith, add-mul v 1 d, more)
-
+-- the least multiple that is not below a number
 least : (a d u v : ℕ) → u * d < a + d → a ≤ v * d → u ≤ v
-least a d u v close from = elim (cases_lt v u) [
-  | inl lt ↦ absurd (omega (arith, apart u v d lt, close, from))
-  | inr le ↦ le
-]
+least a d u v close from = part_most u v d (omega (arith, close, from))
 
 pub unit_up-least : (frames hz x : ℕ) → 0 < frames → IsUnitUp frames hz x (unit_up frames hz x)
 unit_up-least frames hz x h =
@@ -48,7 +41,7 @@ unit_up-start frames hz u some_frames some_hz long =
     let at_most : unit_up frames hz (unit_start frames hz u) ≤ u = it.1 u (omega (arith, split)) in
     let at_least : u ≤ unit_up frames hz (unit_start frames hz u) =
     elim (cases_lt (unit_up frames hz (unit_start frames hz u)) u) [
-      | inl lt ↦ absurd (omega (arith, apart u (unit_up frames hz (unit_start frames hz u)) (frames * 10 ^ 9) lt, split, rest, it.0, long))
+      | inl lt ↦ absurd (omega (arith, part_within u (unit_up frames hz (unit_start frames hz u)) (frames * 10 ^ 9) lt, split, rest, it.0, long))
       | inr le ↦ le
     ] in
     omega (arith, at_most, at_least)

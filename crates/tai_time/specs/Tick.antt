@@ -1,4 +1,5 @@
--- Ticks: packet times, of `frames` frames each. Tick 0 begins at TAI 0. (This project's own; IS-08 counts times in TAI.)
+-- Ticks: packet times, of `frames` frames each. Tick 0 begins at TAI 0. (This project's own; IS-08
+-- counts times in TAI.)
 use Rattle.std.specs.Prelude.{ℕ}
 use Rattle.io_caps.specs.declared.rate.Rate.{Rate}
 use Rattle.tai_time.specs.Unit.{unit_start, unit_up, unit_of, IsUnitUp, IsUnitOf}

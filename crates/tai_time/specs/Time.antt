@@ -1,9 +1,12 @@
--- TAI times, as numbers and as text. (This project's own; the form `seconds:nanoseconds` is that of IS-04 and IS-08.)
-use Rattle.std.specs.Prelude.{◌≡◌, ◌≤◌, ◌<◌, ℕ, ◌+◌, ◌*◌, ◌/◌, ◌%◌, ◌^◌, Bool, ◌==◌, List, ◌∷◌, ◌++◌, Contains, decimal}
+-- TAI times, as numbers and as text. (This project's own; the form `seconds:nanoseconds` is that of
+-- IS-04 and IS-08.)
+use Rattle.std.specs.Prelude.{◌≡◌, ◌≤◌, ◌<◌, ℕ, ◌+◌, ◌*◌, ◌/◌, ◌%◌, ◌^◌}
+use Rattle.std.specs.Prelude.{Bool, ◌==◌, List, ◌∷◌, ◌++◌, Contains, decimal}
 use Rattle.std.specs.List.{before_first, after_first}
 use Rattle.std.specs.Str.Parse.{IsNumeral, digits_value}
 
--- Seconds and nanoseconds since TAI 0, which is 1970-01-01 00:00:00 TAI, the epoch of PTP. (IEEE 1588-2008, section 7.2.2)
+-- Seconds and nanoseconds since TAI 0, which is 1970-01-01 00:00:00 TAI, the epoch of PTP. (IEEE
+-- 1588-2008, section 7.2.2)
 pub record TaiTime : Type 0 where
   pub secs : ℕ
   pub nanos : ℕ
@@ -42,7 +45,8 @@ colon = 58
 abbrev pub tai_text : TaiTime → List ℕ
 tai_text time = decimal time.secs ++ colon ∷ decimal time.nanos
 
--- A text of a time: one digit or more, a colon, one digit or more, and each number in its range. There may be leading zeros.
+-- A text of a time: one digit or more, a colon, one digit or more, and each number in its range.
+-- There may be leading zeros.
 pub record IsTaiText (text : List ℕ) (time : TaiTime) : Type 0 where
   pub before : List ℕ
   pub after : List ℕ
@@ -90,9 +94,11 @@ HasNoDigits text = HasColon text × (AreDigits (secs_part text) (nanos_part text
 -- both parts are digits, and the seconds are out of their range
 abbrev pub IsSecsOver : List ℕ → Type 0
 IsSecsOver text =
-    HasColon text × AreDigits (secs_part text) (nanos_part text) × (secs_limit ≤ digits_value 10 (secs_part text))
+    HasColon text × AreDigits (secs_part text) (nanos_part text)
+    × (secs_limit ≤ digits_value 10 (secs_part text))
 
 -- the seconds are in their range, and the nanoseconds out of theirs
 abbrev pub IsNanosOver : List ℕ → Type 0
 IsNanosOver text =
-    HasColon text × HasSecs (secs_part text) (nanos_part text) × (second ≤ digits_value 10 (nanos_part text))
+    HasColon text × HasSecs (secs_part text) (nanos_part text)
+    × (second ≤ digits_value 10 (nanos_part text))

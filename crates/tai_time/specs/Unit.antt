@@ -1,5 +1,5 @@
--- Units of a number of frames each, as ticks and single frames: where one begins, and which one a time belongs to.
--- Unit u begins u * frames / hz seconds after TAI 0. (This project's own.)
+-- Units of a number of frames each, as ticks and single frames: where one begins, and which one a
+-- time belongs to. Unit u begins u * frames / hz seconds after TAI 0. (This project's own.)
 use Rattle.std.specs.Prelude.{◌≤◌, ℕ, ◌*◌, ◌/◌, ◌^◌}
 use Rattle.std.specs.Int.{div_ceil}
 

@@ -1,11 +1,16 @@
 //! A TAI time and its text.
 
-ghost use Rattle.std.specs.Prelude.{◌≡◌, ◌≢◌, ◌≤◌, ◌<◌, ◌+◌, ◌-◌, ◌*◌, ◌^◌, ◌++◌, ◌↔◌, min, IfOk, IfSome, IfNone, OnOk, OnErr, IsOk, IsNone, Ok, drop, length};
+ghost use Rattle.std.specs.Prelude.{◌≡◌, ◌≢◌, ◌≤◌, ◌<◌, ◌+◌, ◌-◌, ◌*◌, ◌^◌, ◌++◌, ◌↔◌, min, IfOk};
+ghost use Rattle.std.specs.Prelude.{IfSome, IfNone, OnOk, OnErr, IsOk, IsNone, Ok, drop, length};
 ghost use Rattle.std.specs.List.{position};
 ghost use Rattle.std.specs.Result.{IsErrOf};
 ghost use Rattle.std.specs.Str.Parse.{IsNumeral, digits_value};
-ghost use Rattle.tai_time.specs.Time.{TaiTime, is_colon, IsTai, IsTaiText, HasColon, HasNoColon, AreDigits, HasSecs, secs_part, nanos_part, HasNoDigits, IsSecsOver, IsNanosOver, secs_limit, second, nanos_of, nanos_limit, time_of, tai_text};
-ghost use Rattle.tai_time.specs.declared.tai.TaiFault.TheVariants.{NoColon, NotDigits, SecsRange, NanosRange};
+ghost use Rattle.tai_time.specs.Time.{TaiTime, is_colon, IsTai, IsTaiText, HasColon};
+ghost use Rattle.tai_time.specs.Time.{HasNoColon, AreDigits, HasSecs, secs_part, nanos_part};
+ghost use Rattle.tai_time.specs.Time.{HasNoDigits, IsSecsOver, IsNanosOver, secs_limit};
+ghost use Rattle.tai_time.specs.Time.{second, nanos_of, nanos_limit, time_of, tai_text};
+ghost use Rattle.tai_time.specs.declared.tai.TaiFault.TheVariants.{NoColon, NotDigits};
+ghost use Rattle.tai_time.specs.declared.tai.TaiFault.TheVariants.{SecsRange, NanosRange};
 
 use io_caps::{NoMemory, TryCopy};
 use itoa::write_digits;
@@ -24,8 +29,8 @@ const COLON: u8 = b':';
 /// The bytes of the longest text: 13 digits, a colon, 9 digits.
 const MAX_TEXT_LEN: usize = 23;
 
-/// A time since TAI 0, which is 1970-01-01 00:00:00 TAI (IEEE 1588-2008, section 7.2.2). The seconds are below 2^40 and the
-/// nanoseconds below 10^9.
+/// A time since TAI 0, which is 1970-01-01 00:00:00 TAI (IEEE 1588-2008, section 7.2.2). The
+/// seconds are below 2^40 and the nanoseconds below 10^9.
 #[derive(Clone, Copy, Debug, PartialEq, Eq)]
 pub struct Tai {
     pub secs: u64,
@@ -63,9 +68,11 @@ pub enum TaiFault {
     NanosRange,
 }
 
-/// The number that digits write, cut off at the greatest `u64`; `None` where there is no digit or another byte.
+/// The number that digits write, cut off at the greatest `u64`; `None` where there is no digit or
+/// another byte.
 fn read_number(text: &[u8]) -> Option<u64>
-    ensures some { IfSome result (λ number. IsNumeral 10 text.now × (number ≡ min (digits_value 10 text.now) (2 ^ 64 - 1))) }
+    ensures some { IfSome result
+        (λ number. IsNumeral 10 text.now × (number ≡ min (digits_value 10 text.now) (2 ^ 64 - 1))) }
     ensures none { IfNone result (IsNumeral 10 text.now → ⊥) }
 {
     if text.is_empty() {
@@ -85,12 +92,17 @@ fn read_number(text: &[u8]) -> Option<u64>
 
 /// The time of two numbers.
 fn read_parts(before: &[u8], after: &[u8]) -> Result<Tai, TaiFault>
-    ensures ok { IsOk result ↔ (HasSecs before.now after.now × (digits_value 10 after.now < second)) }
-    ensures parts { IfOk result (λ time. (time.secs ≡ digits_value 10 before.now) × (time.nanos ≡ digits_value 10 after.now)) }
+    ensures ok { IsOk result
+        ↔ (HasSecs before.now after.now × (digits_value 10 after.now < second)) }
+    ensures parts { IfOk result
+        (λ time. (time.secs ≡ digits_value 10 before.now)
+        × (time.nanos ≡ digits_value 10 after.now)) }
     ensures no_colon { IsErrOf result NoColon → ⊥ }
     ensures not_digits { IsErrOf result NotDigits ↔ (AreDigits before.now after.now → ⊥) }
-    ensures secs_range { IsErrOf result SecsRange ↔ (AreDigits before.now after.now × (secs_limit ≤ digits_value 10 before.now)) }
-    ensures nanos_range { IsErrOf result NanosRange ↔ (HasSecs before.now after.now × (second ≤ digits_value 10 after.now)) }
+    ensures secs_range { IsErrOf result SecsRange
+        ↔ (AreDigits before.now after.now × (secs_limit ≤ digits_value 10 before.now)) }
+    ensures nanos_range { IsErrOf result NanosRange
+        ↔ (HasSecs before.now after.now × (second ≤ digits_value 10 after.now)) }
 {
     let Some(secs) = read_number(before) else {
         return Err(TaiFault::NotDigits);
@@ -119,7 +131,9 @@ fn colon_at(text: &[u8]) -> Option<usize>
 
 /// What stands before and after the first colon.
 fn cut_at_colon(text: &[u8]) -> Option<(&[u8], &[u8])>
-    ensures some { IfSome result (λ parts. HasColon text.now × (parts.0.now ≡ secs_part text.now) × (parts.1.now ≡ nanos_part text.now)) }
+    ensures some { IfSome result
+        (λ parts. HasColon text.now × (parts.0.now ≡ secs_part text.now)
+        × (parts.1.now ≡ nanos_part text.now)) }
     ensures none { IfNone result (HasNoColon text.now) }
 {
     let at = colon_at(text)?;
@@ -141,7 +155,8 @@ fn put_text(time: Tai, text: &mut [u8]) -> usize
 }
 
 impl Tai {
-    /// Reads `seconds:nanoseconds`, each of any number of digits, in the order of the faults. It takes no memory.
+    /// Reads `seconds:nanoseconds`, each of any number of digits, in the order of the faults. It
+    /// takes no memory.
     pub fn read(text: &[u8]) -> Result<Tai, TaiFault>
         ensures found { IfOk result (λ time. IsTaiText text.now time) }
         ensures only { (time : TaiTime) → IsTaiText text.now time → result ≡ Ok time }

@@ -30,8 +30,8 @@ fn tick_times(rt: HostRuntime) {
     assert_eq!(rt; tick_up(start, frames), 1);
 }
 
-/// A rate, the start of tick 1000003 with the tick in which it lies, the last tick that has a start with its
-/// nanoseconds, and the ticks from and of 1700000000:123456789 on.
+/// A rate, the start of tick 1000003 with the tick in which it lies, the last tick that has a start
+/// with its nanoseconds, and the ticks from and of 1700000000:123456789 on.
 #[test]
 fn table_of_ticks(rt: HostRuntime) {
     let rows: [((u32, u16), (u64, u32, u64), (u64, u32), (u64, u64)); 16] = [

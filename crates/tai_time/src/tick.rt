@@ -33,10 +33,12 @@ pub fn tick_of(time: Tai, rate: Rate) -> u64
     (time.as_nanos() * u128::from(rate.hz) / tick_len(rate)) as u64
 }
 
-/// The start of a tick, rounded down to a nanosecond, and `None` exactly where it has 2^40 seconds or more.
+/// The start of a tick, rounded down to a nanosecond, and `None` exactly where it has 2^40 seconds
+/// or more.
 pub fn tick_start(tick: u64, rate: Rate) -> Option<Tai>
     requires { IsRate rate }
-    ensures start { IfSome result (λ time. (time ≡ time_of (spec.tick_start rate tick)) × IsTai time) }
+    ensures start { IfSome result
+        (λ time. (time ≡ time_of (spec.tick_start rate tick)) × IsTai time) }
     ensures none { IsNone result ↔ (nanos_limit ≤ spec.tick_start rate tick) }
     ensures again { IfSome result (λ time. spec.tick_up rate (nanos_of time) ≡ tick) }
 {

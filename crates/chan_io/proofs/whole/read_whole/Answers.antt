@@ -13,5 +13,12 @@ returns-then-is_err-clause-most g c =
       bytes = before ++ last;
       alike = TellsAlike-then _ _ _ c.loop-buffer.invariant.alike read.1;
       read = Consumes-then _ _ _ before last c.loop-buffer.invariant.read read.2;
-      bounded = omega (arith, read.0, c.read.auto.buf, length-append before last, length-take c.in-Ok.count c.read.new.buf, length-take (c.min-room.result + 1) c.loop-buffer.buffer);
+      bounded = omega (
+        arith,
+        read.0,
+        c.read.auto.buf,
+        length-append before last,
+        length-take c.in-Ok.count c.read.new.buf,
+        length-take (c.min-room.result + 1) c.loop-buffer.buffer,
+      );
     }

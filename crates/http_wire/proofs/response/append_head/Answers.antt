@@ -14,5 +14,6 @@ returns-clause-ok c =
     (connection_line c.args.status c.args.closes) (codes "\r\n")
     c.in_ok-append_status_line.ensures.ok c.in_ok-append_content.ensures.ok c.in_ok-extend_from_slice.ensures.items
     (put origin extra _ (extra_lines c.args.extra) (c.as_bytes.ensures.value ∙ c.lines.ensures) c.in_ok-extend_from_slice-2.ensures.items)
-    (put extra connection _ (connection_line c.args.status c.args.closes) (c.as_bytes-2.ensures.value ∙ c.connection.ensures) c.in_ok-extend_from_slice-3.ensures.items)
+    (put extra connection _ (connection_line c.args.status c.args.closes) (c.as_bytes-2.ensures.value
+    ∙ c.connection.ensures) c.in_ok-extend_from_slice-3.ensures.items)
     c.in_ok-extend_from_slice-4.ensures.items

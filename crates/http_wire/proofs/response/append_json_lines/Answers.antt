@@ -11,6 +11,7 @@ returns-clause-ok c =
     let length = c.extend_from_slice-2.new.self.items in
     let new = c.extend_from_slice-3.new.self.items in
     let number = c.as_bytes.ensures.value ∙ c.format.ensures.text in
-    before old kind new (codes "Content-Type: application/json\r\nContent-Length: ") (decimal c.args.len ++ codes "\r\n") c.in_ok-extend_from_slice.ensures.items
+    before old kind new (codes "Content-Type: application/json\r\nContent-Length: ")
+    (decimal c.args.len ++ codes "\r\n") c.in_ok-extend_from_slice.ensures.items
     (before kind length new (decimal c.args.len) (codes "\r\n") (put kind length _ (decimal c.args.len) number c.in_ok-extend_from_slice-2.ensures.items)
     c.in_ok-extend_from_slice-3.ensures.items)

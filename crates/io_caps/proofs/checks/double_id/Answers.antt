@@ -12,7 +12,8 @@ returns-then-has_id g c =
       all = tt;
       within = c.loop-at-test.true;
       some = not_distinct g.P.Port.id c.args.ports.now c.loop-at.at c.index-ports-at.result c.loop-at-test.true c.index-ports-at.is found;
-      double = at_read c.args.ports.now (λ x. Any (λ y. g.P.Port.id y ≡ g.P.Port.id x) (take c.loop-at.at c.args.ports.now)) c.loop-at.at c.index-ports-at.result c.loop-at-test.true c.index-ports-at.is found;
+      double = at_read c.args.ports.now (λ x. Any (λ y. g.P.Port.id y ≡ g.P.Port.id x) (take c.loop-at.at c.args.ports.now)) c.loop-at.at
+          c.index-ports-at.result c.loop-at-test.true c.index-ports-at.is found;
       before = c.loop-at.invariant;
     }
 

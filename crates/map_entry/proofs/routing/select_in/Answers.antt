@@ -5,13 +5,15 @@ use Rattle.map_entry.proofs.routing.select_in.Goals as goal
 
 pub returns-then-rules : goal.returns-then-rules
 returns-then-rules c =
-    let step = selected-step due c.args.entries.now c.loop-at.at c.index-entries-at.result c.args.output c.args.tick (omega arith) (omega arith) c.index-entries-at.is in
+    let step = selected-step due c.args.entries.now c.loop-at.at c.index-entries-at.result c.args.output c.args.tick (omega arith)
+    (omega arith) c.index-entries-at.is in
     let hit : rules due c.args.output c.args.tick c.index-entries-at.result ≡ true = sym c.rules.ensures ∙ c.if-rules.true in
     let whole : selected c.args.entries.now c.args.output c.args.tick ≡ Some c.index-entries-at.result.row = c.loop-at.invariant ∙ rw hit at step in
     sym whole
 
 pub loop-at-preserved : goal.loop-at-preserved
 loop-at-preserved c =
-    let step = selected-step due c.args.entries.now c.loop-at.at c.index-entries-at.result c.args.output c.args.tick (omega arith) (omega arith) c.index-entries-at.is in
+    let step = selected-step due c.args.entries.now c.loop-at.at c.index-entries-at.result c.args.output c.args.tick (omega arith)
+    (omega arith) c.index-entries-at.is in
     let other : rules due c.args.output c.args.tick c.index-entries-at.result ≡ false = sym c.rules.ensures ∙ c.if-rules.false in
     c.loop-at.invariant ∙ rw other at step

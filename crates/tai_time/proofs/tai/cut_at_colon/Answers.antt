@@ -9,5 +9,9 @@ returns-in_err-at-clause-none c =
 
 pub returns-clause-some : goal.returns-clause-some
 returns-clause-some c =
-    let found = colon_found c.args.text.now c.in_ok-at.at (search rules) in
-    (found.0, ap (λ (n : ℕ). take n c.args.text.now) found.1, take_rest c.args.text.now (c.in_ok-at.at + 1) ∙ ap (λ (n : ℕ). drop (n + 1) c.args.text.now) found.1)
+    let found = colon_found c.args.text.now c.in_ok-at.at (search rules) in (
+      found.0,
+      ap (λ (n : ℕ). take n c.args.text.now) found.1,
+      take_rest c.args.text.now (c.in_ok-at.at + 1)
+          ∙ ap (λ (n : ℕ). drop (n + 1) c.args.text.now) found.1,
+    )

@@ -13,7 +13,8 @@ text_put first second old secs nanos n r len old_len some few after whole =
     let colon : drop (n - 1) (set first (n - 1) 58) ≡ 58 ∷ drop (n - 1 + 1) first = drop-set first (n - 1) 58 (omega arith) in
     let next : n - 1 + 1 ≡ n = omega arith in
     let rest : drop (n - 1 + 1) first ≡ decimal nanos =
-    ap (λ (k : ℕ). drop k first) next ∙ after ∙ ap (λ (x : List ℕ). decimal nanos ++ x) (drop_all 23 old (omega arith)) ∙ append-nil (decimal nanos) in
+    ap (λ (k : ℕ). drop k first) next ∙ after ∙ ap (λ (x : List ℕ). decimal nanos ++ x) (drop_all 23 old (omega arith))
+    ∙ append-nil (decimal nanos) in
     whole ∙ ap (λ (x : List ℕ). decimal secs ++ x) (colon ∙ ap (λ (x : List ℕ). 58 ∷ x) rest)
 
 pub write_digits-nanos_start-requires : goal.write_digits-nanos_start-requires
@@ -26,14 +27,23 @@ overflow_sub-colon c = omega (arith, length-decimal-le 9 c.from.result (omega ar
 pub write_digits-requires : goal.write_digits-requires
 write_digits-requires c =
     let nanos : length (decimal c.from.result) ≤ 9 = length-decimal-le 9 c.from.result (omega arith) (omega arith) (omega arith) in
-    let secs : length (decimal c.time.inside.secs) ≤ 13 = length-decimal-le 13 c.time.inside.secs (omega arith) (omega arith) (omega arith) in
-    (omega (arith, nanos, secs), omega (arith, nanos, length-set c.write_digits-nanos_start.new.buf (c.write_digits-nanos_start.result - 1) 58, c.write_digits-nanos_start.auto.buf))
+    let secs : length (decimal c.time.inside.secs) ≤ 13 = length-decimal-le 13 c.time.inside.secs (omega arith) (omega arith) (omega arith) in (
+      omega (arith, nanos, secs),
+      omega (
+        arith,
+        nanos,
+        length-set c.write_digits-nanos_start.new.buf (c.write_digits-nanos_start.result - 1) 58,
+        c.write_digits-nanos_start.auto.buf,
+      ),
+    )
 
 pub returns-clause-text : goal.returns-clause-text
 returns-clause-text c =
     let nanos : length (decimal c.from.result) ≤ 9 = length-decimal-le 9 c.from.result (omega arith) (omega arith) (omega arith) in
-    let put = text_put c.write_digits-nanos_start.new.buf c.write_digits.new.buf c.args.text.now c.time.inside.secs c.from.result c.write_digits-nanos_start.result c.write_digits.result
-    (omega (arith, c.write_digits-nanos_start.auto.buf)) c.requires (omega (arith, nanos)) (omega arith) c.write_digits-nanos_start.ensures.written c.write_digits.ensures.written in
+    let put = text_put c.write_digits-nanos_start.new.buf c.write_digits.new.buf c.args.text.now c.time.inside.secs c.from.result
+    c.write_digits-nanos_start.result c.write_digits.result
+    (omega (arith, c.write_digits-nanos_start.auto.buf)) c.requires (omega (arith, nanos))
+    (omega arith) c.write_digits-nanos_start.ensures.written c.write_digits.ensures.written in
     rw (← c.time.view_is) (put ∙ ap (λ (n : ℕ). decimal c.time.inside.secs ++ 58 ∷ decimal n) c.from.ensures)
 
 pub returns-clause-again : goal.returns-clause-again

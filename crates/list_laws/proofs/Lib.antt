@@ -1,0 +1,4 @@
+pub mod Ranges
+pub mod Items
+pub mod Options
+pub mod Parts
