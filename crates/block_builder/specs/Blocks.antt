@@ -1,9 +1,14 @@
--- Input blocks: what an input's packets and the readings of the clock make of its ticks. (This project's own; the reading of a
--- packet, and that timestamps count frames and wrap, are of RFC 3550, section 5.1.)
+-- Input blocks: what an input's packets and the readings of the clock make of its ticks. (This
+-- project's own; the reading of a packet, and that timestamps count frames and wrap, are of RFC
+-- 3550, section 5.1.)
 --
--- Ticks are counted from the session's first one, `base`. Frames are told by places: place 2^31 is the session's first frame, so
--- that a packet that begins up to 2^31 frames before it has a place too. `-` stops at 0.
-use Rattle.std.specs.Prelude.{◌≡◌, ℕ, ◌+◌, ◌-◌, ◌*◌, ◌/◌, ◌%◌, ◌==◌, ◌&&◌, ◌||◌, Bool, true, false, nat_le, nat_lt, if◌then◌else◌, List, [], ◌++◌, ◌∷◌, length, take, drop, map, replicate, slice_get, All, Option, Some, None, is_some, option_and_then, unwrap_or, min, max, ℤ, pos}
+-- Ticks are counted from the session's first one, `base`. Frames are told by places: place 2^31 is
+-- the session's first frame, so that a packet that begins up to 2^31 frames before it has a place
+-- too. `-` stops at 0.
+use Rattle.std.specs.Prelude.{◌≡◌, ℕ, ◌+◌, ◌-◌, ◌*◌, ◌/◌, ◌%◌, ◌==◌, ◌&&◌, ◌||◌, Bool, true, false}
+use Rattle.std.specs.Prelude.{nat_le, nat_lt, if◌then◌else◌, List, [], ◌++◌, ◌∷◌, length, take}
+use Rattle.std.specs.Prelude.{drop, map, replicate, slice_get, All, Option, Some, None, is_some}
+use Rattle.std.specs.Prelude.{option_and_then, unwrap_or, min, max, ℤ, pos}
 use Rattle.std.specs.List.{find, flat_map, list_any, range_with_len}
 use Rattle.std.specs.Option.{option_map}
 use Rattle.io_caps.specs.Rate.{bytes_per_sample}
@@ -36,8 +41,8 @@ intake_of d input ticks = option_map (λ i. intake_for d i ticks) (slice_get d.i
 
 -- ---- places
 
--- the place of a packet's first frame: the one below 2^32 that its timestamp leaves, since the session's first frame has the
--- timestamp `base * frames` (RFC 3550, section 5.1)
+-- the place of a packet's first frame: the one below 2^32 that its timestamp leaves, since the
+-- session's first frame has the timestamp `base * frames` (RFC 3550, section 5.1)
 abbrev pub first_place : Intake → ℕ → ℕ
 first_place n timestamp = (timestamp + HALF + (WHOLE - n.base * n.frames % WHOLE)) % WHOLE
 
@@ -51,8 +56,9 @@ tick_at n place = (place - HALF) / n.frames
 
 -- ---- what counts
 
--- What a packet that counts brings: so many frames from a place on, with their samples, and the tick of its last frame, which
--- may lie past the session's end. A reading of the clock brings no frame, and its tick is the last.
+-- What a packet that counts brings: so many frames from a place on, with their samples, and the
+-- tick of its last frame, which may lie past the session's end. A reading of the clock brings no
+-- frame, and its tick is the last.
 pub record Piece : Type 0 where
   pub first : ℕ
   pub count : ℕ
@@ -63,11 +69,12 @@ pub record Piece : Type 0 where
 abbrev pub frame_bytes : Intake → ℕ
 frame_bytes n = n.channels * bytes_per_sample n.width
 
--- A packet counts where its payload type is the input's, its payload is whole frames and at least one, and its first frame
--- lies before the session's end.
+-- A packet counts where its payload type is the input's, its payload is whole frames and at least
+-- one, and its first frame lies before the session's end.
 abbrev pub counts : Intake → Head → List ℕ → Bool
 counts n head payload =
-    (head.payload_type == n.payload_type) && (length payload % frame_bytes n == 0) && nat_lt 0 (length payload)
+    (head.payload_type == n.payload_type) && (length payload % frame_bytes n == 0)
+    && nat_lt 0 (length payload)
     && nat_lt (first_place n head.timestamp) (tick_place n n.ticks)
 
 -- what a payload brings whose first frame is at a place
@@ -90,8 +97,8 @@ abbrev pub read_pieces : Intake → Option RtpReading → List Piece
 read_pieces n None = []
 read_pieces n (Some r) = packet_pieces n r.head r.payload
 
--- What an arrival brings. A packet that doesn't read or doesn't count brings nothing. The end is a reading of the clock past
--- all ticks of the session.
+-- What an arrival brings. A packet that doesn't read or doesn't count brings nothing. The end is a
+-- reading of the clock past all ticks of the session.
 abbrev pub pieces_by : Intake → Arrival → List Piece
 pieces_by n (Packet bytes) = read_pieces n (reading_of bytes)
 pieces_by n (Mark tick) = clock_piece (tick - n.base) ∷ []
@@ -126,8 +133,9 @@ closed_of n arrivals = closed_by n (pieces_of n arrivals)
 abbrev pub covers : ℕ → Piece → Bool
 covers place p = nat_le p.first place && nat_lt place (p.first + p.count)
 
--- The packet whose samples a frame of a tick holds, in words: the first that covers it, where no piece before it closes the
--- tick. (`closes` comes behind `covers`: a packet is stored first and closes afterwards.)
+-- The packet whose samples a frame of a tick holds, in words: the first that covers it, where no
+-- piece before it closes the tick. (`closes` comes behind `covers`: a packet is stored first and
+-- closes afterwards.)
 pub record IsHolder (n : Intake) (pieces : List Piece) (tick place : ℕ) (p : Piece) : Type 0 where
   pub before : List Piece
   pub after : List Piece
@@ -143,7 +151,8 @@ decides n tick place p = covers place p || closes n tick p
 -- the same packet as a function: the first piece that decides, where it covers the frame
 abbrev pub holder : Intake → List Piece → ℕ → ℕ → Option Piece
 holder n pieces tick place =
-    option_and_then (λ p. (if covers place p then Some p else None)) (find (decides n tick place) pieces)
+    option_and_then (λ p. (if covers place p then Some p else None))
+    (find (decides n tick place) pieces)
 
 -- the samples of a payload in order (RFC 3551, sections 4.3 and 4.5.11, and RFC 3190, section 4)
 abbrev pub samples_of : Intake → List ℕ → List ℤ
@@ -162,7 +171,8 @@ Held = ℕ → Option (List ℤ)
 -- what each frame of a tick holds, after all that was brought
 unfoldable pub held_at : Intake → List Piece → ℕ → Held
 held_at n pieces tick frame =
-    let place = tick_place n tick + frame in option_map (piece_frame n place) (holder n pieces tick place)
+    let place = tick_place n tick + frame
+    in option_map (piece_frame n place) (holder n pieces tick place)
 
 -- ---- blocks
 
@@ -173,23 +183,26 @@ is_held n held = list_any (λ frame. is_some (held frame)) (range_with_len 0 n.f
 -- the samples of a tick, frame by frame; silence where a frame holds none
 abbrev pub tick_samples : Intake → Held → List ℤ
 tick_samples n held =
-    flat_map (λ frame. unwrap_or (held frame) (replicate n.channels (pos 0))) (range_with_len 0 n.frames)
+    flat_map (λ frame. unwrap_or (held frame) (replicate n.channels (pos 0)))
+    (range_with_len 0 n.frames)
 
 -- the block by what the frames of a tick hold: none where none of them holds anything
 abbrev pub block_by : Intake → Held → Option (List ℤ)
 block_by n held = if is_held n held then Some (tick_samples n held) else None
 
--- The block of a tick: its samples frame by frame, each frame in channel order; or none, where no frame of it holds a packet's
--- samples.
+-- The block of a tick: its samples frame by frame, each frame in channel order; or none, where no
+-- frame of it holds a packet's samples.
 unfoldable pub block_at : Intake → List Arrival → ℕ → Option (List ℤ)
 block_at n arrivals tick = block_by n (held_at n (pieces_of n arrivals) (tick - n.base))
 
--- The block of an input of a device at a tick, in a session of so many ticks from the device's first one.
+-- The block of an input of a device at a tick, in a session of so many ticks from the device's
+-- first one.
 abbrev pub block_of : DeviceParts → ℕ → ℕ → List Arrival → ℕ → Option (List ℤ)
 block_of d input ticks arrivals tick =
     option_and_then (λ n. block_at n arrivals tick) (intake_of d input ticks)
 
--- the shape of a block: a sample, which is a signed number of 24 bits, for each channel of each frame
+-- the shape of a block: a sample, which is a signed number of 24 bits, for each channel of each
+-- frame
 pub record IsBlock (n : Intake) (block : List ℤ) : Type 0 where
   pub long : length block ≡ n.frames * n.channels
   pub samples : All IsSample block

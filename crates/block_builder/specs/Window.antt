@@ -1,11 +1,16 @@
--- The builder's window: slots of ticks, rising, each with what its tick holds so far. (This project's own.)
-use Rattle.std.specs.Prelude.{◌≡◌, ◌≢◌, ℕ, ◌+◌, ◌-◌, ◌^◌, ◌<◌, ◌≤◌, Bool, false, if◌then◌else◌, ◌&&◌, not, nat_lt, List, [], ◌∷◌, length, map, Some, None, is_some, IfSome, ℤ, ◌⊎◌, slice_index_or}
+-- The builder's window: slots of ticks, rising, each with what its tick holds so far. (This
+-- project's own.)
+use Rattle.std.specs.Prelude.{◌≡◌, ◌≢◌, ℕ, ◌+◌, ◌-◌, ◌^◌, ◌<◌, ◌≤◌, Bool, false, if◌then◌else◌}
+use Rattle.std.specs.Prelude.{◌&&◌, not, nat_lt, List, [], ◌∷◌, length, map, Some, None, is_some}
+use Rattle.std.specs.Prelude.{IfSome, ℤ, ◌⊎◌, slice_index_or}
 use Rattle.std.specs.List.{count_by, range_with_len, sum_by}
 use Rattle.std.specs.Option.{option_or}
-use Rattle.io_caps.specs.declared.limits.TheConstants.{MOST_CHANNELS, MOST_FRAMES, MOST_HOLD, SESSION_TICKS}
+use Rattle.io_caps.specs.declared.limits.TheConstants.{MOST_CHANNELS, MOST_FRAMES, MOST_HOLD}
+use Rattle.io_caps.specs.declared.limits.TheConstants.{SESSION_TICKS}
 use Rattle.block_builder.specs.declared.intake.Intake.{Intake}
 use Rattle.block_builder.specs.declared.slot.Slot.{Slot}
-use Rattle.block_builder.specs.Blocks.{Piece, Held, IsBlock, covers, piece_frame, tick_place, tick_samples}
+use Rattle.block_builder.specs.Blocks.{Piece, Held, IsBlock, covers, piece_frame, tick_place}
+use Rattle.block_builder.specs.Blocks.{tick_samples}
 
 -- the numbers of an intake are those of a device and a session within their limits
 pub record IsIntake (n : Intake) : Type 0 where
@@ -25,7 +30,8 @@ added n p tick held frame =
 
 -- the same where only the frames below one were added
 abbrev pub added_below : ℕ → Intake → Piece → ℕ → Held → Held
-added_below upto n p tick held frame = if nat_lt frame upto then added n p tick held frame else held frame
+added_below upto n p tick held frame =
+    if nat_lt frame upto then added n p tick held frame else held frame
 
 -- which frames of a tick hold something
 abbrev pub held_flags : Intake → Held → List Bool
@@ -60,7 +66,8 @@ fresh_at n p tick held = count_by (is_fresh n p tick held) (range_with_len 0 n.f
 -- a packet was put into what shows a tick
 abbrev pub IsAdded : Intake → Piece → ℕ → List ℤ → List Bool → List ℤ → List Bool → Type 0
 IsAdded n p tick samples flags new_samples new_flags =
-    (held : Held) → IsShown n held samples flags → IsShown n (added n p tick held) new_samples new_flags
+    (held : Held) → IsShown n held samples flags
+    → IsShown n (added n p tick held) new_samples new_flags
 
 -- so many of its frames are the first
 abbrev pub IsFreshCount : Intake → Piece → ℕ → List ℤ → List Bool → ℕ → Type 0
@@ -91,7 +98,8 @@ HasTicks from to slots = (tick : ℕ) → from ≤ tick → tick < to → HasTic
 
 -- the slot at a place is there, and is a tick's
 abbrev pub IsTickAt : ℕ → ℕ → List Slot → Type 0
-IsTickAt tick at slots = (at < length slots) × ((d : Slot) → (slice_index_or slots at d).tick ≡ tick)
+IsTickAt tick at slots =
+    (at < length slots) × ((d : Slot) → (slice_index_or slots at d).tick ≡ tick)
 
 -- it is another's, where it is there
 abbrev pub IsOtherAt : ℕ → ℕ → List Slot → Type 0
@@ -123,12 +131,13 @@ Meaning = ℕ → Held
 abbrev pub added_all : Intake → Piece → Meaning → Meaning
 added_all n p m tick = added n p tick (m tick)
 
--- The slots show what the ticks from one on hold: they rise, each shows what its tick holds, and a tick of the session without
--- a slot holds nothing.
+-- The slots show what the ticks from one on hold: they rise, each shows what its tick holds, and a
+-- tick of the session without a slot holds nothing.
 abbrev pub IsWindow : Intake → Meaning → ℕ → List Slot → Type 0
 IsWindow n m from [] = (tick : ℕ) → from ≤ tick → tick < n.ticks → IsAbsent n (m tick)
 IsWindow n m from (s ∷ ss) =
-    (from ≤ s.tick) × (s.tick < n.ticks) × ((tick : ℕ) → from ≤ tick → tick < s.tick → IsAbsent n (m tick))
+    (from ≤ s.tick) × (s.tick < n.ticks)
+    × ((tick : ℕ) → from ≤ tick → tick < s.tick → IsAbsent n (m tick))
     × IsShown n (m s.tick) s.samples.items s.held.items × IsWindow n m (s.tick + 1) ss
 
 -- new slots show all that the old ones show
@@ -137,11 +146,13 @@ ShowsAlike n from old new = (m : Meaning) → IsWindow n m from old → IsWindow
 
 -- the same from any tick that is not past a range of the session
 abbrev pub ShowsAlikeBefore : Intake → ℕ → ℕ → List Slot → List Slot → Type 0
-ShowsAlikeBefore n from to old new = (first : ℕ) → first ≤ from → to ≤ n.ticks → ShowsAlike n first old new
+ShowsAlikeBefore n from to old new =
+    (first : ℕ) → first ≤ from → to ≤ n.ticks → ShowsAlike n first old new
 
 -- new slots show that and a packet put into it
 abbrev pub ShowsAdded : Intake → Piece → ℕ → List Slot → List Slot → Type 0
-ShowsAdded n p from old new = (m : Meaning) → IsWindow n m from old → IsWindow n (added_all n p m) from new
+ShowsAdded n p from old new =
+    (m : Meaning) → IsWindow n m from old → IsWindow n (added_all n p m) from new
 
 -- how many frames of the slots' ticks a packet would be the first to hold
 abbrev pub fresh_in : Intake → Piece → Meaning → List Slot → ℕ
@@ -149,4 +160,5 @@ fresh_in n p m slots = sum_by (λ s. fresh_at n p s.tick (m s.tick)) slots
 
 -- of all ticks of the session from one on
 abbrev pub fresh_from : Intake → Piece → Meaning → ℕ → ℕ
-fresh_from n p m from = sum_by (λ tick. fresh_at n p tick (m tick)) (range_with_len from (n.ticks - from))
+fresh_from n p m from =
+    sum_by (λ tick. fresh_at n p tick (m tick)) (range_with_len from (n.ticks - from))

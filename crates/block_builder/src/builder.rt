@@ -1,7 +1,9 @@
 //! The builder of an input's blocks.
 
-ghost use Rattle.std.specs.Prelude.{◌≡◌, ◌≤◌, ◌<◌, ◌+◌, [], ◌∷◌, ◌↔◌, Some, IfOk, IfNone, IfSome, IsTrue, OnErr, OnOk, OnSome, length};
-ghost use Rattle.block_builder.specs.Blocks.{IsBlock, block_at, clock_piece, closed_of, intake_of, pieces_by};
+ghost use Rattle.std.specs.Prelude.{◌≡◌, ◌≤◌, ◌<◌, ◌+◌, [], ◌∷◌, ◌↔◌, Some, IfOk, IfNone, IfSome};
+ghost use Rattle.std.specs.Prelude.{IsTrue, OnErr, OnOk, OnSome, length};
+ghost use Rattle.block_builder.specs.Blocks.{IsBlock, block_at, clock_piece, closed_of, intake_of};
+ghost use Rattle.block_builder.specs.Blocks.{pieces_by};
 ghost use Rattle.block_builder.specs.Building.{IsDrained, IsTakenBy, handed_on, with_arrival};
 ghost use Rattle.block_builder.specs.Came.{arrival_of};
 ghost use Rattle.block_builder.specs.declared.arrival.Arrival.TheVariants.{End, Mark, Packet};
@@ -18,8 +20,9 @@ use std::alloc::Global;
 use std::collections::VecDeque;
 use std::marker::Model;
 
-/// Makes the blocks of one input of what comes to it. Contracts see what rules the input, what came so far, and how many
-/// ticks were handed out. It keeps what its open ticks hold, and those that are closed and were not handed out.
+/// Makes the blocks of one input of what comes to it. Contracts see what rules the input, what came
+/// so far, and how many ticks were handed out. It keeps what its open ticks hold, and those that
+/// are closed and were not handed out.
 #[derive(Drop)]
 pub struct Builder {
     intake: Intake,
@@ -43,7 +46,8 @@ impl Model for Builder {
 }
 
 impl Builder {
-    /// A builder for an input that is there, in a session of so many ticks from the device's first one.
+    /// A builder for an input that is there, in a session of so many ticks from the device's first
+    /// one.
     pub fn new(alloc: Global, device: &Device, input: u8, ticks: u64) -> Result<Builder, NoMemory>
         requires input { input < length device.now.inputs }
         requires ticks { ticks ≤ SESSION_TICKS }
@@ -68,8 +72,8 @@ impl Builder {
         self.closed <= self.given
     }
 
-    /// Hands out the next closed tick with its block, and `None` where no closed tick is left. The tick is one of the
-    /// device's; a block has the input's shape.
+    /// Hands out the next closed tick with its block, and `None` where no closed tick is left. The
+    /// tick is one of the device's; a block has the input's shape.
     pub fn next_closed(&mut self) -> Option<(u64, Option<Block>)>
         ensures none { IfNone result (IsDrained self.old × (self.new ≡ self.old)) }
         ensures some { IfSome result (λ _. IsDrained self.old → ⊥) }
@@ -89,9 +93,10 @@ impl Builder {
         Some((self.intake.base + tick, block))
     }
 
-    /// Takes a packet, once all closed ticks were handed out, and tells what became of it. Its frames go where no earlier
-    /// packet's are, in the ticks that are open; afterwards it closes the ticks that lie more than the hold before that of
-    /// its last frame. Want of memory leaves the builder as it was.
+    /// Takes a packet, once all closed ticks were handed out, and tells what became of it. Its
+    /// frames go where no earlier packet's are, in the ticks that are open; afterwards it closes
+    /// the ticks that lie more than the hold before that of its last frame. Want of memory leaves
+    /// the builder as it was.
     pub fn take(&mut self, packet: &[u8]) -> Result<Taken, NoMemory>
         requires { IsDrained self.old }
         ensures ok { OnOk result (self.new ≡ with_arrival self.old (Packet packet.now)) }

@@ -2,7 +2,8 @@
 
 ghost use Rattle.std.specs.Prelude.{◌≡◌, ◌≤◌, ◌<◌, ◌-◌, ◌^◌, Some, length};
 ghost use Rattle.io_caps.specs.declared.limits.TheConstants.{MOST_FRAMES, SESSION_TICKS};
-ghost use Rattle.block_builder.specs.Blocks.{first_place, frame_bytes, intake_of, piece_at, tick_at, tick_place};
+ghost use Rattle.block_builder.specs.Blocks.{first_place, frame_bytes, intake_of, piece_at};
+ghost use Rattle.block_builder.specs.Blocks.{tick_at, tick_place};
 ghost use Rattle.block_builder.specs.Window.{IsIntake};
 
 use io_caps::{Device, Width};
@@ -10,8 +11,12 @@ use io_caps::{Device, Width};
 /// How many timestamps there are (RFC 3550 section 5.1).
 pub const WHOLE: u64 = 1 << 32;
 
+const _: () = prove!(WHOLE == 4294967296);
+
 /// The place of a session's first frame: half as many.
 pub const HALF: u64 = 1 << 31;
+
+const _: () = prove!(HALF == 2147483648);
 
 /// What rules the blocks of an input in a session.
 #[derive(Clone, Copy, Debug, PartialEq, Eq)]

@@ -17,10 +17,12 @@ pub use builder::Builder;
 pub use run::blocks_of_packets;
 pub use taken::{PacketFault, Taken};
 
-/// The samples of a tick, frame by frame and each frame in channel order: signed numbers of 24 bits.
+/// The samples of a tick, frame by frame and each frame in channel order: signed numbers of 24
+/// bits.
 pub type Block = io_caps::ListOf<i32>;
 
-/// The blocks of ticks, one behind the other, and `None` for a tick of which no frame holds a packet's samples.
+/// The blocks of ticks, one behind the other, and `None` for a tick of which no frame holds a
+/// packet's samples.
 pub type Blocks = io_caps::ListOf<Option<Block>>;
 
 #[cfg(test)]

@@ -1,7 +1,9 @@
 //! What becomes of one packet.
 
-ghost use Rattle.std.specs.Prelude.{◌≡◌, ◌≤◌, ◌<◌, ◌^◌, [], ◌∷◌, List, All, true, false, IfOk, IfErr, OnOk, OnErr};
-ghost use Rattle.block_builder.specs.Blocks.{Piece, closed_by, counts, first_place, packet_pieces, piece_at, pieces_by};
+ghost use Rattle.std.specs.Prelude.{◌≡◌, ◌≤◌, ◌<◌, ◌^◌, [], ◌∷◌, List, All, true, false, IfOk};
+ghost use Rattle.std.specs.Prelude.{IfErr, OnOk, OnErr};
+ghost use Rattle.block_builder.specs.Blocks.{Piece, closed_by, counts, first_place, packet_pieces};
+ghost use Rattle.block_builder.specs.Blocks.{piece_at, pieces_by};
 ghost use Rattle.block_builder.specs.Building.{IsRight, ShowsMore};
 ghost use Rattle.block_builder.specs.Taken.{IsTaken, new_frames, taken_by, used_or_spent};
 ghost use Rattle.block_builder.specs.Window.{IsIntake, IsSlot, IsWindow, Meaning, ShowsAlike};
@@ -16,14 +18,19 @@ use rtp_pcm::{Head, frames_in, read_packet};
 use std::alloc::Global;
 use std::collections::VecDeque;
 
-/// Whether a packet that was read counts: the place of its first frame where it does, and else what becomes of it.
+/// Whether a packet that was read counts: the place of its first frame where it does, and else what
+/// becomes of it.
 pub(crate) fn judge(intake: Intake, head: Head, payload: &[u8]) -> Result<u64, Taken>
     requires numbers { IsIntake intake }
     ensures counts { OnOk result (counts intake head payload.now ≡ true) }
-    ensures place { IfOk result (λ first. (first ≡ first_place intake head.timestamp) × (first < 2 ^ 32)) }
-    ensures used { OnOk result ((ps : List Piece) → taken_by intake ps head payload.now ≡ used_or_spent (new_frames intake ps (piece_at intake (first_place intake head.timestamp) payload.now))) }
+    ensures place { IfOk result (λ first. (first ≡ first_place intake head.timestamp)
+        × (first < 2 ^ 32)) }
+    ensures used { OnOk result ((ps : List Piece) → taken_by intake ps head payload.now
+        ≡ used_or_spent
+        (new_frames intake ps (piece_at intake (first_place intake head.timestamp) payload.now))) }
     ensures no { OnErr result (counts intake head payload.now ≡ false) }
-    ensures other { IfErr result (λ taken. (ps : List Piece) → taken ≡ taken_by intake ps head payload.now) }
+    ensures other { IfErr result (λ taken. (ps : List Piece)
+        → taken ≡ taken_by intake ps head payload.now) }
 {
     if head.payload_type != intake.payload_type {
         return Err(Taken::Foreign {
@@ -63,7 +70,8 @@ fn used_or_spent(frames: u32) -> Taken
     }
 }
 
-/// Takes a packet that was read, while no closed tick is left: what becomes of it, and how many ticks it closes.
+/// Takes a packet that was read, while no closed tick is left: what becomes of it, and how many
+/// ticks it closes.
 fn take_read(
     alloc: Global,
     slots: &mut VecDeque<Slot>,
@@ -77,10 +85,15 @@ fn take_read(
     requires slots { All (IsSlot intake) slots.old.items }
     requires window { (m : Meaning) × IsWindow intake m given slots.old.items }
     ensures slots { All (IsSlot intake) slots.new.items }
-    ensures ok { OnOk result (ShowsMore intake given (packet_pieces intake head payload.now) slots.old.items slots.new.items) }
+    ensures ok { OnOk result
+        (ShowsMore intake given (packet_pieces intake head payload.now) slots.old.items
+        slots.new.items) }
     ensures err { OnErr result (ShowsAlike intake given slots.old.items slots.new.items) }
-    ensures closes { IfOk result (λ x. x.1 ≡ closed_by intake (packet_pieces intake head payload.now)) }
-    ensures taken { IfOk result (λ x. IsRight intake given slots.old.items (λ ps. x.0 ≡ taken_by intake ps head payload.now)) }
+    ensures closes { IfOk result
+        (λ x. x.1 ≡ closed_by intake (packet_pieces intake head payload.now)) }
+    ensures taken { IfOk result
+        (λ x. IsRight intake given slots.old.items
+        (λ ps. x.0 ≡ taken_by intake ps head payload.now)) }
 {
     match judge(intake, head, payload) {
         Err(taken) => Ok((taken, 0)),
@@ -107,10 +120,14 @@ pub(crate) fn take_packet(
     requires slots { All (IsSlot intake) slots.old.items }
     requires window { (m : Meaning) × IsWindow intake m given slots.old.items }
     ensures slots { All (IsSlot intake) slots.new.items }
-    ensures ok { OnOk result (ShowsMore intake given (pieces_by intake (Packet packet.now)) slots.old.items slots.new.items) }
+    ensures ok { OnOk result
+        (ShowsMore intake given (pieces_by intake (Packet packet.now)) slots.old.items
+        slots.new.items) }
     ensures err { OnErr result (ShowsAlike intake given slots.old.items slots.new.items) }
-    ensures closes { IfOk result (λ x. x.1 ≡ closed_by intake (pieces_by intake (Packet packet.now))) }
-    ensures taken { IfOk result (λ x. IsRight intake given slots.old.items (λ ps. IsTaken intake ps packet.now x.0)) }
+    ensures closes { IfOk result
+        (λ x. x.1 ≡ closed_by intake (pieces_by intake (Packet packet.now))) }
+    ensures taken { IfOk result
+        (λ x. IsRight intake given slots.old.items (λ ps. IsTaken intake ps packet.now x.0)) }
 {
     match read_packet(packet) {
         Err(fault) => Ok((Taken::Misfit(PacketFault::Rtp(fault)), 0)),

@@ -1,10 +1,13 @@
 //! A tick that waits: its samples so far, and which of its frames hold any.
 
-ghost use Rattle.std.specs.Prelude.{◌≡◌, ◌≤◌, ◌<◌, ◌+◌, ◌*◌, ◌^◌, ◌++◌, List, take, drop, length, All, IfOk, IfSome};
+ghost use Rattle.std.specs.Prelude.{◌≡◌, ◌≤◌, ◌<◌, ◌+◌, ◌*◌, ◌^◌, ◌++◌, List, take, drop, length};
+ghost use Rattle.std.specs.Prelude.{All, IfOk, IfSome};
 ghost use Rattle.std.specs.List.{list_any};
 ghost use Rattle.rtp_pcm.specs.Pcm.{IsSample};
-ghost use Rattle.block_builder.specs.Blocks.{Held, IsBlock, block_by, frame_bytes, piece_at, samples_of};
-ghost use Rattle.block_builder.specs.Window.{IsAdded, IsBlank, IsFreshCount, IsIntake, IsShown, IsSlot};
+ghost use Rattle.block_builder.specs.Blocks.{Held, IsBlock, block_by, frame_bytes, piece_at};
+ghost use Rattle.block_builder.specs.Blocks.{samples_of};
+ghost use Rattle.block_builder.specs.Window.{IsAdded, IsBlank, IsFreshCount, IsIntake, IsShown};
+ghost use Rattle.block_builder.specs.Window.{IsSlot};
 ghost use Rattle.block_builder.specs.declared.intake.Intake.{Intake};
 ghost use Rattle.io_caps.specs.declared.limits.TheConstants.{SESSION_TICKS};
 
@@ -14,7 +17,8 @@ use io_caps::NoMemory;
 use rtp_pcm::get_sample;
 use std::alloc::Global;
 
-/// A tick that may still be given samples, or that was not handed out. It is counted from the session's first.
+/// A tick that may still be given samples, or that was not handed out. It is counted from the
+/// session's first.
 #[derive(Debug, Drop)]
 pub struct Slot {
     pub(crate) tick: u64,
@@ -45,7 +49,9 @@ pub(crate) fn put_frame(samples: &mut [i32], payload: &[u8], intake: Intake, fra
     requires block { IsBlock intake samples.old }
     requires within { frame < intake.frames }
     requires there { frame_bytes intake ≤ length payload.now }
-    ensures value { samples.new ≡ take (frame * intake.channels) samples.old ++ (samples_of intake payload.now ++ drop (frame * intake.channels + intake.channels) samples.old) }
+    ensures value { samples.new ≡ take (frame * intake.channels) samples.old
+        ++ (samples_of intake payload.now ++ drop (frame * intake.channels + intake.channels)
+        samples.old) }
     ensures block { IsBlock intake samples.new }
 {
     let channels = intake.channels as usize;
@@ -53,8 +59,8 @@ pub(crate) fn put_frame(samples: &mut [i32], payload: &[u8], intake: Intake, fra
     put_samples(&mut samples[at..at + channels], payload, intake);
 }
 
-/// Puts the frames of a packet into those of a tick that hold none, and answers how many. `first` is the place of the
-/// packet's first frame.
+/// Puts the frames of a packet into those of a tick that hold none, and answers how many. `first`
+/// is the place of the packet's first frame.
 pub(crate) fn fill(
     samples: &mut [i32],
     held: &mut [bool],
@@ -70,8 +76,10 @@ pub(crate) fn fill(
     requires place { first < 2 ^ 32 }
     ensures block { IsBlock intake samples.new }
     ensures flags { length held.new ≡ intake.frames }
-    ensures shown { IsAdded intake (piece_at intake first payload.now) tick samples.old held.old samples.new held.new }
-    ensures count { IsFreshCount intake (piece_at intake first payload.now) tick samples.old held.old result }
+    ensures shown { IsAdded intake (piece_at intake first payload.now) tick samples.old held.old
+        samples.new held.new }
+    ensures count { IsFreshCount intake (piece_at intake first payload.now) tick samples.old
+        held.old result }
     ensures few { result ≤ intake.frames }
 {
     let frame_len = intake.frame_len();
@@ -129,8 +137,10 @@ impl Slot {
         requires place { first < 2 ^ 32 }
         ensures tick { self.new.tick ≡ self.old.tick }
         ensures slot { IsSlot intake self.new }
-        ensures shown { IsAdded intake (piece_at intake first payload.now) self.old.tick self.old.samples.items self.old.held.items self.new.samples.items self.new.held.items }
-        ensures count { IsFreshCount intake (piece_at intake first payload.now) self.old.tick self.old.samples.items self.old.held.items result }
+        ensures shown { IsAdded intake (piece_at intake first payload.now) self.old.tick
+            self.old.samples.items self.old.held.items self.new.samples.items self.new.held.items }
+        ensures count { IsFreshCount intake (piece_at intake first payload.now) self.old.tick
+            self.old.samples.items self.old.held.items result }
         ensures few { result ≤ intake.frames }
     {
         fill(
@@ -152,7 +162,8 @@ impl Slot {
 
     /// The tick's block, and `None` where no frame holds anything.
     pub(crate) fn into_block(self) -> Option<Block>
-        ensures value { (n : Intake) (held : Held) → IsShown n held self.samples.items self.held.items → result ≡ block_by n held }
+        ensures value { (n : Intake) (held : Held)
+            → IsShown n held self.samples.items self.held.items → result ≡ block_by n held }
         ensures shape { (n : Intake) → IsSlot n self → IfSome result (IsBlock n) }
     {
         if self.is_held() {

@@ -3,14 +3,14 @@
 use rtp_pcm::RtpFault;
 use thiserror::Error;
 
-/// What became of a packet: `Misfit` where it does not read, or else the first of `Foreign`, `Misfit`, `Beyond`, `Spent` and
-/// `Used` that applies.
+/// What became of a packet: `Misfit` where it does not read, or else the first of `Foreign`,
+/// `Misfit`, `Beyond`, `Spent` and `Used` that applies.
 #[derive(Clone, Copy, Debug, PartialEq, Eq)]
 pub enum Taken {
     /// So many of its frames were stored: at least one.
     Used { frames: u32 },
-    /// None of its frames was stored: there is none, or each lies before the session, in a closed tick, in a frame that holds
-    /// samples, or past the session's end.
+    /// None of its frames was stored: there is none, or each lies before the session, in a closed
+    /// tick, in a frame that holds samples, or past the session's end.
     Spent,
     /// Its first frame lies at or past the session's end.
     Beyond,

@@ -1,4 +1,5 @@
-//! A builder by hand, in a table of cases whose values come from outside, and beside the rule itself.
+//! A builder by hand, in a table of cases whose values come from outside, and beside the rule
+//! itself.
 
 mod bad_input;
 mod by_hand;

@@ -1,10 +1,14 @@
 //! The slots of an input's ticks, which rise.
 
-ghost use Rattle.std.specs.Prelude.{◌≡◌, ◌≤◌, ◌<◌, ◌+◌, ◌*◌, ◌^◌, ℕ, length, All, IfOk, IfSome, OnOk, OnErr, true, false, slice_index_or};
+ghost use Rattle.std.specs.Prelude.{◌≡◌, ◌≤◌, ◌<◌, ◌+◌, ◌*◌, ◌^◌, ℕ, length, All, IfOk, IfSome};
+ghost use Rattle.std.specs.Prelude.{OnOk, OnErr, true, false, slice_index_or};
 ghost use Rattle.std.specs.VecDeque.{deque_len};
 ghost use Rattle.io_caps.specs.declared.limits.TheConstants.{MOST_FRAMES, SESSION_TICKS};
 ghost use Rattle.block_builder.specs.Blocks.{IsBlock, block_by, piece_at};
-ghost use Rattle.block_builder.specs.Window.{HasTick, HasTicks, IsCut, IsFirst, IsOtherAt, IsTickAt, IsIntake, IsPast, IsPut, IsSlot, IsUntouched, IsWindow, Meaning, ShowsAdded, ShowsAlike, ShowsAlikeBefore, fresh_from, fresh_in};
+ghost use Rattle.block_builder.specs.Window.{HasTick, HasTicks, IsCut, IsFirst, IsOtherAt};
+ghost use Rattle.block_builder.specs.Window.{IsTickAt, IsIntake, IsPast, IsPut, IsSlot};
+ghost use Rattle.block_builder.specs.Window.{IsUntouched, IsWindow, Meaning, ShowsAdded};
+ghost use Rattle.block_builder.specs.Window.{ShowsAlike, ShowsAlikeBefore, fresh_from, fresh_in};
 ghost use Rattle.block_builder.specs.declared.intake.Intake.{Intake};
 ghost use Rattle.block_builder.specs.declared.slot.Slot.{Slot};
 
@@ -15,7 +19,8 @@ use io_caps::NoMemory;
 use std::alloc::Global;
 use std::collections::VecDeque;
 
-/// How many slots stand before the place of a tick. They are looked at from the back, where most packets belong.
+/// How many slots stand before the place of a tick. They are looked at from the back, where most
+/// packets belong.
 pub(crate) fn cut_at(slots: &VecDeque<Slot>, tick: u64) -> usize
     ensures within { result ≤ length slots.now.items }
     ensures cut { IsCut tick result slots.now.items }
@@ -35,7 +40,8 @@ fn is_at(slots: &VecDeque<Slot>, at: usize, tick: u64) -> bool
     at < slots.len() && slots[at].tick == tick
 }
 
-/// Makes a slot for each tick of a range that has none. Want of memory may leave some of them, which hold nothing.
+/// Makes a slot for each tick of a range that has none. Want of memory may leave some of them,
+/// which hold nothing.
 pub(crate) fn add_blanks(
     alloc: Global,
     slots: &mut VecDeque<Slot>,
@@ -63,7 +69,8 @@ fn add_blank(
 ) -> Result<(), NoMemory>
     requires slots { All (IsSlot intake) slots.old.items }
     ensures slots { All (IsSlot intake) slots.new.items }
-    ensures window { (first : ℕ) → first ≤ tick → tick < intake.ticks → ShowsAlike intake first slots.old.items slots.new.items }
+    ensures window { (first : ℕ) → first ≤ tick → tick < intake.ticks
+        → ShowsAlike intake first slots.old.items slots.new.items }
     ensures there { OnOk result (HasTick tick slots.new.items) }
     ensures others { (other : ℕ) → HasTick other slots.old.items → HasTick other slots.new.items }
 {
@@ -83,7 +90,8 @@ fn drop_blanks(slots: &mut VecDeque<Slot>)
     slots.retain(|slot: &Slot| slot.is_held());
 }
 
-/// Makes a slot for each tick of a range that has none. Where memory runs out, no slot is left that holds nothing.
+/// Makes a slot for each tick of a range that has none. Where memory runs out, no slot is left that
+/// holds nothing.
 fn make_room(
     alloc: Global,
     slots: &mut VecDeque<Slot>,
@@ -103,8 +111,8 @@ fn make_room(
     made
 }
 
-/// Puts the frames of a packet into the slots of its ticks, where they hold none, and answers how many.
-/// Those before a place are not its.
+/// Puts the frames of a packet into the slots of its ticks, where they hold none, and answers how
+/// many. Those before a place are not its.
 pub(crate) fn fill_all(
     slots: &mut VecDeque<Slot>,
     payload: &[u8],
@@ -118,10 +126,15 @@ pub(crate) fn fill_all(
     requires few { length slots.old.items ≤ SESSION_TICKS }
     requires place { first < 2 ^ 32 }
     requires start { start ≤ length slots.old.items }
-    requires before { (k : ℕ) (d : Slot) → k < start → k < length slots.old.items → IsUntouched intake (piece_at intake first payload.now) (slice_index_or slots.old.items k d).tick }
+    requires before { (k : ℕ) (d : Slot) → k < start → k < length slots.old.items
+        → IsUntouched intake (piece_at intake first payload.now)
+        (slice_index_or slots.old.items k d).tick }
     ensures len { length slots.new.items ≡ length slots.old.items }
-    ensures put { (k : ℕ) (d : Slot) → k < length slots.old.items → IsPut intake (piece_at intake first payload.now) (slice_index_or slots.old.items k d) (slice_index_or slots.new.items k d) }
-    ensures count { (m : Meaning) (from : ℕ) → IsWindow intake m from slots.old.items → result ≡ fresh_in intake (piece_at intake first payload.now) m slots.old.items }
+    ensures put { (k : ℕ) (d : Slot) → k < length slots.old.items
+        → IsPut intake (piece_at intake first payload.now) (slice_index_or slots.old.items k d)
+        (slice_index_or slots.new.items k d) }
+    ensures count { (m : Meaning) (from : ℕ) → IsWindow intake m from slots.old.items
+        → result ≡ fresh_in intake (piece_at intake first payload.now) m slots.old.items }
     ensures bound { result ≤ length slots.old.items * MOST_FRAMES }
 {
     let mut used = 0;
@@ -131,8 +144,8 @@ pub(crate) fn fill_all(
     used
 }
 
-/// Stores the frames of a packet in the ticks from one on, and answers how many. Want of memory changes nothing that the
-/// slots show.
+/// Stores the frames of a packet in the ticks from one on, and answers how many. Want of memory
+/// changes nothing that the slots show.
 pub(crate) fn store(
     alloc: Global,
     slots: &mut VecDeque<Slot>,
@@ -147,8 +160,11 @@ pub(crate) fn store(
     requires slots { All (IsSlot intake) slots.old.items }
     requires window { (m : Meaning) × IsWindow intake m given slots.old.items }
     ensures slots { All (IsSlot intake) slots.new.items }
-    ensures ok { OnOk result (ShowsAdded intake (piece_at intake first payload.now) given slots.old.items slots.new.items) }
-    ensures count { IfOk result (λ used. (m : Meaning) → IsWindow intake m given slots.old.items → used ≡ fresh_from intake (piece_at intake first payload.now) m given) }
+    ensures ok { OnOk result
+        (ShowsAdded intake (piece_at intake first payload.now) given slots.old.items
+        slots.new.items) }
+    ensures count { IfOk result (λ used. (m : Meaning) → IsWindow intake m given slots.old.items
+        → used ≡ fresh_from intake (piece_at intake first payload.now) m given) }
     ensures small { IfOk result (λ used. used < 2 ^ 32) }
     ensures err { OnErr result (ShowsAlike intake given slots.old.items slots.new.items) }
 {
@@ -173,9 +189,11 @@ fn is_first(slots: &VecDeque<Slot>, tick: u64) -> bool
 
 /// Takes the first slot, where it is that of a tick.
 pub(crate) fn take_first(slots: &mut VecDeque<Slot>, tick: u64) -> Option<Block>
-    ensures window { (n : Intake) (m : Meaning) → tick < n.ticks → IsWindow n m tick slots.old.items → IsWindow n m (tick + 1) slots.new.items }
+    ensures window { (n : Intake) (m : Meaning) → tick < n.ticks → IsWindow n m tick slots.old.items
+        → IsWindow n m (tick + 1) slots.new.items }
     ensures slots { (n : Intake) → All (IsSlot n) slots.old.items → All (IsSlot n) slots.new.items }
-    ensures block { (n : Intake) (m : Meaning) → tick < n.ticks → IsWindow n m tick slots.old.items → result ≡ block_by n (m tick) }
+    ensures block { (n : Intake) (m : Meaning) → tick < n.ticks → IsWindow n m tick slots.old.items
+        → result ≡ block_by n (m tick) }
     ensures shape { (n : Intake) → All (IsSlot n) slots.old.items → IfSome result (IsBlock n) }
 {
     if !is_first(slots, tick) {

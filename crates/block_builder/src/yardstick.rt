@@ -1,9 +1,11 @@
-//! The blocks of an input by the rule itself: for each frame, all arrivals are looked at. It is slow, and keeps nothing; the
-//! builder is tested beside it.
+//! The blocks of an input by the rule itself: for each frame, all arrivals are looked at. It is
+//! slow, and keeps nothing; the builder is tested beside it.
 
-ghost use Rattle.std.specs.Prelude.{◌≡◌, ◌≤◌, ◌<◌, ◌+◌, ◌^◌, [], IfOk, IfSome, length, pos, replicate};
+ghost use Rattle.std.specs.Prelude.{◌≡◌, ◌≤◌, ◌<◌, ◌+◌, ◌^◌, [], IfOk, IfSome, length, pos};
+ghost use Rattle.std.specs.Prelude.{replicate};
 ghost use Rattle.std.specs.Option.{option_map, option_to_list};
-ghost use Rattle.block_builder.specs.Blocks.{block_by, block_of, closes, covers, held_at, holder, piece_frame, pieces_by, pieces_of};
+ghost use Rattle.block_builder.specs.Blocks.{block_by, block_of, closes, covers, held_at, holder};
+ghost use Rattle.block_builder.specs.Blocks.{piece_frame, pieces_by, pieces_of};
 ghost use Rattle.block_builder.specs.Seen.{HasFrame, IsSeen, piece_seen};
 ghost use Rattle.block_builder.specs.Window.{IsIntake};
 ghost use Rattle.block_builder.specs.declared.arrival.Arrival.TheVariants.{Packet};
@@ -77,7 +79,8 @@ fn see_clock<'a>(last: usize) -> Seen<'a>
 /// What a packet brings, and `None` where it doesn't count.
 fn see_packet(intake: Intake, bytes: &[u8]) -> Option<Seen<'_>>
     requires { IsIntake intake }
-    ensures value { option_to_list (option_map piece_seen result) ≡ pieces_by intake (Packet bytes.now) }
+    ensures value { option_to_list (option_map piece_seen result)
+        ≡ pieces_by intake (Packet bytes.now) }
     ensures whole { IfSome result (λ seen. IsSeen intake seen) }
 {
     let Ok(read) = read_packet(bytes) else {
@@ -111,7 +114,8 @@ fn see(intake: Intake, arrival: &Arrival) -> Option<Seen<'_>>
 fn holder(intake: Intake, arrivals: &[Arrival], tick: u64, place: usize) -> Option<Seen<'_>>
     requires numbers { IsIntake intake }
     requires near { tick ≤ SESSION_TICKS }
-    ensures value { option_map piece_seen result ≡ holder intake (pieces_of intake arrivals.now) tick place }
+    ensures value { option_map piece_seen result ≡ holder intake (pieces_of intake arrivals.now)
+        tick place }
     ensures whole { IfSome result (λ seen. IsSeen intake seen) }
     ensures frame { IfSome result (λ seen. HasFrame place seen) }
 {
@@ -146,7 +150,8 @@ fn frame_at(
     requires numbers { IsIntake intake }
     requires near { tick ≤ SESSION_TICKS }
     requires within { frame < intake.frames }
-    ensures { IfOk result (λ held. held ≡ held_at intake (pieces_of intake arrivals.now) tick frame) }
+    ensures { IfOk result
+        (λ held. held ≡ held_at intake (pieces_of intake arrivals.now) tick frame) }
 {
     let place = intake.tick_place(tick) as usize + frame as usize;
     let Some(seen) = holder(intake, arrivals, tick, place) else {
@@ -164,7 +169,8 @@ fn block_at(
 ) -> Result<Option<Block>, NoMemory>
     requires numbers { IsIntake intake }
     requires near { tick ≤ SESSION_TICKS }
-    ensures { IfOk result (λ block. block ≡ block_by intake (held_at intake (pieces_of intake arrivals.now) tick)) }
+    ensures { IfOk result
+        (λ block. block ≡ block_by intake (held_at intake (pieces_of intake arrivals.now) tick)) }
 {
     let mut samples = Block::new(alloc);
     let mut is_held = false;
@@ -180,8 +186,8 @@ fn block_at(
     Ok(if is_held { Some(samples) } else { None })
 }
 
-/// The block at a tick of an input that is there, after these arrivals, in a session of so many ticks from the device's
-/// first one; and `None` where no frame of it holds a packet's samples.
+/// The block at a tick of an input that is there, after these arrivals, in a session of so many
+/// ticks from the device's first one; and `None` where no frame of it holds a packet's samples.
 pub fn block_by_rule(
     alloc: Global,
     device: &Device,

@@ -4,3 +4,4 @@ pub mod Ticks
 pub mod Feeding
 pub mod Agreement
 pub mod Laws
+pub mod Sources

@@ -67,8 +67,44 @@ impl<'a> SeenSamples<'a> {
 
 impl<'a> Samples for SeenSamples<'a> {
     ghost use Rattle.input_cells.specs.Agreement.{AreHeard};
+    ghost use Rattle.input_cells.specs.Sources.{SeenFace, StaysSeen};
+    ghost use Rattle.std.specs.Prelude.{refl};
+    ghost use Rattle.std.proofs.Common.{◌∙◌};
 
     ghost agrees = { λ s b. AreHeard s.pass.now s.tick s.flags.now b };
+
+    ghost stays = { λ before after. StaysSeen
+        (record {
+          lender = before.pass.ghost_name;
+          table = before.table.now;
+          tick = before.tick;
+          flags = before.flags.now;
+          pass = before.pass.now;
+        })
+        (record {
+          lender = after.pass.ghost_name;
+          table = after.table.now;
+          tick = after.tick;
+          flags = after.flags.now;
+          pass = after.pass.now;
+        }) };
+
+    ghost onward = { record {
+      still = λ a. record {
+        lender = refl;
+        table = refl;
+        tick = refl;
+        flags = refl;
+        grows = λ p h. h;
+      };
+      on = λ a b c f g. record {
+        lender = g.lender ∙ f.lender;
+        table = g.table ∙ f.table;
+        tick = g.tick ∙ f.tick;
+        flags = g.flags ∙ f.flags;
+        grows = λ p h. g.grows p (f.grows p h);
+      };
+    } };
 
     fn copy_channel(
         &mut self,

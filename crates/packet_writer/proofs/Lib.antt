@@ -5,3 +5,4 @@ pub mod Parts
 pub mod PacketLaws
 pub mod ClaimLaws
 pub mod Marks
+pub mod Frames

@@ -1,6 +1,7 @@
--- What rows take of the input blocks of a tick. (This project's own; a frame's samples stand together in channel order: RFC 3551,
--- section 4.3.)
-use Rattle.std.specs.Prelude.{◌≡◌, ℕ, ◌+◌, ◌*◌, ◌<◌, ◌≤◌, List, length, map, slice_get, slice_index_or, Option, Some, None, IfSome, ℤ, pos}
+-- What rows take of the input blocks of a tick. (This project's own; a frame's samples stand
+-- together in channel order: RFC 3551, section 4.3.)
+use Rattle.std.specs.Prelude.{◌≡◌, ℕ, ◌+◌, ◌*◌, ◌<◌, ◌≤◌, List, length, map, slice_get}
+use Rattle.std.specs.Prelude.{slice_index_or, Option, Some, None, IfSome, ℤ, pos}
 use Rattle.std.specs.List.{flat_map, range_with_len}
 use Rattle.std.specs.Option.{unwrap_or}
 use Rattle.io_caps.specs.declared.port.Input.{Input}
@@ -37,7 +38,8 @@ sample_in (Some samples) place = slice_index_or samples place (pos 0)
 
 -- so many frames of a channel, from a frame on
 abbrev pub channel_samples : Option (List ℤ) → ℕ → ℕ → ℕ → ℕ → List ℤ
-channel_samples block channels channel frame frames = map (λ f. sample_in block (f * channels + channel)) (range_with_len frame frames)
+channel_samples block channels channel frame frames =
+    map (λ f. sample_in block (f * channels + channel)) (range_with_len frame frames)
 
 -- a block that is there has so many frames
 abbrev pub HasFrames : Option (List ℤ) → ℕ → ℕ → Type 0
@@ -45,7 +47,8 @@ HasFrames block channels frames = IfSome block (λ samples. frames * channels �
 
 -- each input's block, where it is there, has so many frames
 abbrev pub HaveFrames : List Input → TickBlocks → ℕ → Type 0
-HaveFrames inputs blocks frames = (input : ℕ) → HasFrames (blocks input) (channels_of inputs input) frames
+HaveFrames inputs blocks frames =
+    (input : ℕ) → HasFrames (blocks input) (channels_of inputs input) frames
 
 -- a list's blocks by their places
 abbrev pub listed : List (Option (List ℤ)) → TickBlocks
@@ -57,11 +60,14 @@ AreListed list blocks = (input : ℕ) → blocks input ≡ listed list input
 
 -- ---- rows
 
--- what a cell selects at a frame: the sample of its input's block, and silence where the cell or the block is none
+-- what a cell selects at a frame: the sample of its input's block, and silence where the cell or
+-- the block is none
 abbrev pub heard : List Input → TickBlocks → ℕ → Cell → ℤ
 heard inputs blocks frame Unrouted = pos 0
-heard inputs blocks frame (From input channel) = sample_in (blocks input) (frame * channels_of inputs input + channel)
+heard inputs blocks frame (From input channel) =
+    sample_in (blocks input) (frame * channels_of inputs input + channel)
 
 -- the samples of so many frames from a frame on, each frame in channel order and by its own row
 abbrev pub samples_from : List Input → TickBlocks → RowsByFrame → ℕ → ℕ → List ℤ
-samples_from inputs blocks rows frame frames = flat_map (λ f. map (heard inputs blocks f) (rows f)) (range_with_len frame frames)
+samples_from inputs blocks rows frame frames =
+    flat_map (λ f. map (heard inputs blocks f) (rows f)) (range_with_len frame frames)

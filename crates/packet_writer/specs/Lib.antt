@@ -3,3 +3,4 @@ pub mod Heard
 pub mod Packet
 pub mod Piece
 pub mod Slots
+pub mod Stays

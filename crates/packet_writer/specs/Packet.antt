@@ -1,6 +1,7 @@
--- The packet of a claim: by a list of entries, found flags and input blocks. (This project's own; the layout of a packet is that
--- of RFC 3550, section 5.1.)
-use Rattle.std.specs.Prelude.{◌≡◌, ℕ, ◌+◌, ◌*◌, ◌%◌, ◌^◌, ◌<◌, if◌then◌else◌, All, Bool, false, List, [], length, slice_get, slice_index_or, None}
+-- The packet of a claim: by a list of entries, found flags and input blocks. (This project's own;
+-- the layout of a packet is that of RFC 3550, section 5.1.)
+use Rattle.std.specs.Prelude.{◌≡◌, ℕ, ◌+◌, ◌*◌, ◌%◌, ◌^◌, ◌<◌, if◌then◌else◌, All, Bool, false}
+use Rattle.std.specs.Prelude.{List, [], length, slice_get, slice_index_or, None}
 use Rattle.std.specs.Option.{option_map_or, unwrap_or}
 use Rattle.io_caps.specs.declared.device.DeviceParts.{DeviceParts}
 use Rattle.io_caps.specs.declared.port.Input.{Input}
@@ -24,8 +25,8 @@ Blocks = ℕ → TickBlocks
 
 -- ---- the packet of an output at a tick
 
--- the head: the fields are those of RFC 3550, section 5.1; that sequence number and timestamp follow from the tick is this
--- project's own
+-- the head: the fields are those of RFC 3550, section 5.1; that sequence number and timestamp
+-- follow from the tick is this project's own
 abbrev pub head_of : Rate → Output → ℕ → Head
 head_of rate output tick =
     record {
@@ -38,16 +39,20 @@ head_of rate output tick =
 -- the packet of an output's head at a tick, and of what its rows take of the tick's blocks
 abbrev pub output_packet : Rate → List Input → Output → RowsByFrame → TickBlocks → ℕ → List ℕ
 output_packet rate inputs output rows blocks tick =
-    rtp_packet (head_of rate output tick) (payload_of output.width (samples_from inputs blocks rows 0 rate.frames))
+    rtp_packet (head_of rate output tick)
+    (payload_of output.width (samples_from inputs blocks rows 0 rate.frames))
 
 -- the packet of the device's output with this number; nothing where there is none
 unfoldable pub packet_on : DeviceParts → ℕ → RowsByFrame → TickBlocks → ℕ → List ℕ
-packet_on d output rows blocks tick = option_map_or (λ o. output_packet d.rate d.inputs o rows blocks tick) (slice_get d.outputs output) []
+packet_on d output rows blocks tick =
+    option_map_or (λ o. output_packet d.rate d.inputs o rows blocks tick)
+    (slice_get d.outputs output) []
 
 -- its bytes: a head without CSRCs (RFC 3550, section 5.1), and the samples of a tick
 abbrev pub packet_length : DeviceParts → ℕ → ℕ
 packet_length d output =
-    option_map_or (λ o. 12 + d.rate.frames * length o.labels * bytes_per_sample o.width) (slice_get d.outputs output) 0
+    option_map_or (λ o. 12 + d.rate.frames * length o.labels * bytes_per_sample o.width)
+    (slice_get d.outputs output) 0
 
 -- a row has a cell for each of so many channels, and these name channels that are there
 abbrev pub RowFits : List Input → ℕ → List Cell → Type 0
@@ -55,7 +60,8 @@ RowFits inputs channels row = (length row ≡ channels) × All (IsChannelThere i
 
 -- so do the rows of so many frames
 abbrev pub RowsFit : List Input → ℕ → ℕ → RowsByFrame → Type 0
-RowsFit inputs channels frames rows = (frame : ℕ) → frame < frames → RowFits inputs channels (rows frame)
+RowsFit inputs channels frames rows =
+    (frame : ℕ) → frame < frames → RowFits inputs channels (rows frame)
 
 -- the rows of a tick fit an output
 abbrev pub FitOutput : DeviceParts → ℕ → RowsByFrame → Type 0
@@ -90,4 +96,5 @@ claim_rows s entries k = row_at entries (output_of_claim s k) (tick_of_claim s k
 -- the packet of claim k, by a list of entries and the flags of what was found of the blocks
 abbrev pub packet_by : SetupParts → List Entry → Blocks → List Bool → ℕ → List ℕ
 packet_by s entries blocks flags k =
-    packet_on s.device (output_of_claim s k) (claim_rows s entries k) (found_block blocks flags (tick_of_claim s k)) (tick_of_claim s k)
+    packet_on s.device (output_of_claim s k) (claim_rows s entries k)
+    (found_block blocks flags (tick_of_claim s k)) (tick_of_claim s k)

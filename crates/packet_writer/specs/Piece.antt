@@ -10,4 +10,5 @@ count_of piece = piece.upto - piece.frame
 
 -- its samples
 abbrev pub piece_samples : List Input → TickBlocks → Piece → List ℤ
-piece_samples inputs blocks piece = samples_from inputs blocks (λ f. piece.row.now) piece.frame (count_of piece)
+piece_samples inputs blocks piece =
+    samples_from inputs blocks (λ f. piece.row.now) piece.frame (count_of piece)

@@ -29,7 +29,8 @@ fn put_each(out: &mut [u8], width: Width, cells: usize, cell: usize, samples: &[
     requires room { length out.old ≡ length samples.now * cells * bytes_per_sample width }
     ensures len { length out.new ≡ length out.old }
     ensures put { (f : ℕ) (d : ℤ) → f < length samples.now
-        → slot (bytes_per_sample width) (f * cells + cell) out.new ≡ bytes_of_sample width (get_or samples.now f d) }
+        → slot (bytes_per_sample width) (f * cells + cell) out.new
+        ≡ bytes_of_sample width (get_or samples.now f d) }
     ensures kept { (p : ℕ) → p % cells ≢ cell
         → slot (bytes_per_sample width) p out.new ≡ slot (bytes_per_sample width) p out.old }
 {
@@ -47,7 +48,8 @@ pub fn put_column(out: &mut [u8], width: Width, cells: usize, cell: usize, sampl
     requires room { length out.old ≡ length samples.now * cells * bytes_per_sample width }
     ensures len { length out.new ≡ length out.old }
     ensures put { (f : ℕ) (d : ℤ) → f < length samples.now
-        → slot (bytes_per_sample width) (f * cells + cell) out.new ≡ bytes_of_sample width (get_or samples.now f d) }
+        → slot (bytes_per_sample width) (f * cells + cell) out.new
+        ≡ bytes_of_sample width (get_or samples.now f d) }
     ensures kept { (p : ℕ) → p % cells ≢ cell
         → slot (bytes_per_sample width) p out.new ≡ slot (bytes_per_sample width) p out.old }
 {

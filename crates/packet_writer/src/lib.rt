@@ -1,5 +1,5 @@
-//! The packet of a claim, written in place and without taking memory: into bytes of just its length, one channel of a run of
-//! frames after the other, wherever the samples come from.
+//! The packet of a claim, written in place and without taking memory: into bytes of just its
+//! length, one channel of a run of frames after the other, wherever the samples come from.
 #![tactic(auto)]
 
 mod column;

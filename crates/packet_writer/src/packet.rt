@@ -8,7 +8,8 @@ ghost use Rattle.map_entry.specs.declared.claims.TheConstants.{CLAIMS_LIMIT};
 ghost use Rattle.map_entry.specs.declared.entry.Entry.{Entry};
 ghost use Rattle.rtp_pcm.specs.Pcm.{payload_of};
 ghost use Rattle.packet_writer.specs.Flags.{IsFound};
-ghost use Rattle.packet_writer.specs.Heard.{AreRows, HaveFrames, OfAgreed, SeesMore, TickBlocks, samples_from};
+ghost use Rattle.packet_writer.specs.Heard.{AreRows, HaveFrames, OfAgreed, SeesMore, TickBlocks};
+ghost use Rattle.packet_writer.specs.Heard.{samples_from};
 ghost use Rattle.packet_writer.specs.Packet.{Blocks, FitOutput, RowsFit, claim_rows};
 ghost use Rattle.packet_writer.specs.Packet.{head_of, output_of_claim, output_packet, packet_by};
 ghost use Rattle.packet_writer.specs.Packet.{packet_length, packet_on};
@@ -49,9 +50,10 @@ fn write_payload<S: Samples, R: FrameRows>(
     requires room { length out.old
         ≡ rate.frames * length output.now.labels * bytes_per_sample output.now.width }
     requires blocks { OfAgreed (S.agrees source.old) (λ b. HaveFrames inputs.now b rate.frames) }
-    ensures text { OfAgreed (S.agrees source.new) (λ b. out.new
-        ≡ payload_of output.now.width (samples_from inputs.now b (R.row_of rows.now) 0 rate.frames)) }
+    ensures text { OfAgreed (S.agrees source.new) (λ b. out.new ≡ payload_of output.now.width
+        (samples_from inputs.now b (R.row_of rows.now) 0 rate.frames)) }
     ensures kept { SeesMore (S.agrees source.old) (S.agrees source.new) }
+    ensures stays { S.stays source.old source.new }
 {
     let frame_len = output.channels() * output.width.bytes();
     let mut frame = 0u16;
@@ -95,12 +97,14 @@ fn write_output<S: Samples, R: FrameRows>(
     ensures text { OfAgreed (S.agrees source.new) (λ b.
         out.new ≡ output_packet rate inputs.now output.now (R.row_of rows.now) b tick) }
     ensures kept { SeesMore (S.agrees source.old) (S.agrees source.new) }
+    ensures stays { S.stays source.old source.new }
 {
     write_payload(source, rate, inputs, output, rows, &mut out[HEAD_LEN..]);
     write_head(out, &head_at(rate, output, tick));
 }
 
-/// Writes the packet of an output at a tick, by rows and blocks of the tick, into bytes of just its length.
+/// Writes the packet of an output at a tick, by rows and blocks of the tick, into bytes of just its
+/// length.
 pub fn write_packet<S: Samples, R: FrameRows>(
     source: &mut S,
     device: &Device,
@@ -117,14 +121,16 @@ pub fn write_packet<S: Samples, R: FrameRows>(
     ensures text { OfAgreed (S.agrees source.new) (λ b.
         out.new ≡ packet_on device.now output (R.row_of rows.now) b tick) }
     ensures kept { SeesMore (S.agrees source.old) (S.agrees source.new) }
+    ensures stays { S.stays source.old source.new }
 {
     let inputs = device.input_slice();
     let of = device.output(output);
     write_output(source, device.rate(), inputs, of, rows, tick, out);
 }
 
-/// Writes the packet of claim `k`, by its rows, into bytes of just its length. It is that of all lists of entries that have
-/// these rows, and of all flags and blocks of which the packet finds what agrees with what was seen.
+/// Writes the packet of claim `k`, by its rows, into bytes of just its length. It is that of all
+/// lists of entries that have these rows, and of all flags and blocks of which the packet finds
+/// what agrees with what was seen.
 pub fn write_claim<S: Samples, R: FrameRows>(
     source: &mut S,
     setup: &Setup,
@@ -140,8 +146,10 @@ pub fn write_claim<S: Samples, R: FrameRows>(
     ensures text { OfAgreed (S.agrees source.new) (λ b.
         (entries : List Entry) (blocks : Blocks) (flags : List Bool)
         → AreRows setup.now.device.rate.frames (R.row_of rows.now) (claim_rows setup.now entries k)
-        → IsFound setup.now entries k b blocks flags → out.new ≡ packet_by setup.now entries blocks flags k) }
+        → IsFound setup.now entries k b blocks flags
+        → out.new ≡ packet_by setup.now entries blocks flags k) }
     ensures kept { SeesMore (S.agrees source.old) (S.agrees source.new) }
+    ensures stays { S.stays source.old source.new }
 {
     let device = &setup.device;
     let outputs = device.outputs();

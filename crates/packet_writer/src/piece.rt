@@ -1,6 +1,7 @@
 //! Runs of frames that one row rules.
 
-ghost use Rattle.std.specs.Prelude.{◌≡◌, ◌≤◌, ◌<◌, ◌+◌, ◌-◌, ◌*◌, All, List, Some, ℕ, length, map, slice_get};
+ghost use Rattle.std.specs.Prelude.{◌≡◌, ◌≤◌, ◌<◌, ◌+◌, ◌-◌, ◌*◌, All, List, Some};
+ghost use Rattle.std.specs.Prelude.{ℕ, length, map, slice_get};
 ghost use Rattle.std.specs.List.{range_with_len};
 ghost use Rattle.io_caps.specs.declared.port.Input.{Input};
 ghost use Rattle.io_caps.specs.Rate.{bytes_per_sample};
@@ -78,11 +79,13 @@ fn input_at(inputs: &[Input], input: u8) -> &Input
 /// What a cell selects, from a frame on.
 fn read_cell<S: Samples>(source: &mut S, inputs: &[Input], cell: Cell, frame: u16, out: &mut [i32])
     requires cell { IsChannelThere inputs.now cell }
-    requires blocks { OfAgreed (S.agrees source.old) (λ b. HaveFrames inputs.now b (frame + length out.old)) }
+    requires blocks { OfAgreed (S.agrees source.old) (λ b.
+        HaveFrames inputs.now b (frame + length out.old)) }
     ensures value { OfAgreed (S.agrees source.new) (λ b.
         out.new ≡ map (λ f. heard inputs.now b f cell) (range_with_len frame (length out.old))) }
     ensures len { length out.new ≡ length out.old }
     ensures kept { SeesMore (S.agrees source.old) (S.agrees source.new) }
+    ensures stays { S.stays source.old source.new }
 {
     match cell {
         Cell::Unrouted => out.fill(0),
@@ -104,11 +107,13 @@ pub fn write_piece<S: Samples>(
     requires row { All (IsChannelThere inputs.now) piece.now.row.now }
     requires begins { piece.now.frame ≤ piece.now.upto }
     requires ends { piece.now.upto ≤ MOST_FRAMES }
-    requires room { length out.old ≡ count_of piece.now * length piece.now.row.now * bytes_per_sample width }
+    requires room { length out.old
+        ≡ count_of piece.now * length piece.now.row.now * bytes_per_sample width }
     requires blocks { OfAgreed (S.agrees source.old) (λ b. HaveFrames inputs.now b piece.now.upto) }
     ensures text { OfAgreed (S.agrees source.new) (λ b.
         out.new ≡ payload_of width (piece_samples inputs.now b piece.now)) }
     ensures kept { SeesMore (S.agrees source.old) (S.agrees source.new) }
+    ensures stays { S.stays source.old source.new }
 {
     let mut store = [0i32; MOST_FRAMES as usize];
     let samples = &mut store[..(piece.upto - piece.frame) as usize];

@@ -1,24 +1,36 @@
 //! Where samples come from.
 
-ghost use Rattle.std.specs.Prelude.{◌≡◌, ◌↔◌, IfSome, IfNone, IsTrue, Some, None, ◌≤◌, ◌<◌, ◌+◌, ◌*◌, true, ℕ, length};
+ghost use Rattle.std.specs.Prelude.{◌≡◌, ◌↔◌, IfSome, IfNone, IsTrue, Some, None, ◌≤◌, ◌<◌};
+ghost use Rattle.std.specs.Prelude.{◌+◌, ◌*◌, ℕ, length, refl};
+ghost use Rattle.std.proofs.Common.{◌∙◌};
 ghost use Rattle.io_caps.specs.declared.limits.TheConstants.{MOST_CHANNELS};
-ghost use Rattle.packet_writer.specs.Heard.{AreListed, HasFrames, HaveFrames, OfAgreed, SeesMore, TickBlocks, channel_samples, listed};
+ghost use Rattle.packet_writer.specs.Heard.{AreListed, HasFrames, HaveFrames, OfAgreed, SeesMore};
+ghost use Rattle.packet_writer.specs.Heard.{TickBlocks, channel_samples, listed};
+ghost use Rattle.packet_writer.specs.Stays.{IsOnward};
 
 use io_caps::{Device, Input, ListOf};
 
-/// The input blocks of one tick, as they are seen. What is said of them is said of all blocks that agree with what was seen: to
-/// see more leaves fewer of them.
+/// The input blocks of one tick, as they are seen. What is said of them is said of all blocks that
+/// agree with what was seen: to see more leaves fewer of them. What no call changes, as which tick
+/// it is, is what `stays`.
 pub trait Samples {
     ghost agrees: { Self → TickBlocks → Type 0 };
 
-    /// The samples of a channel of an input, which has so many channels, from a frame on; silence where there is no block.
+    ghost stays: { Self → Self → Type 0 };
+
+    /// The samples of a channel of an input, which has so many channels, from a frame on; silence
+    /// where there is no block.
     fn copy_channel(&mut self, input: u8, channels: usize, channel: u8, frame: u16, out: &mut [i32])
         requires channel { channel < channels }
-        requires room { OfAgreed (agrees self.old) (λ b. HasFrames (b input) channels (frame + length out.old)) }
+        requires room { OfAgreed (agrees self.old) (λ b.
+            HasFrames (b input) channels (frame + length out.old)) }
         ensures value { OfAgreed (agrees self.new) (λ b.
             out.new ≡ channel_samples (b input) channels channel frame (length out.old)) }
         ensures len { length out.new ≡ length out.old }
-        ensures kept { SeesMore (agrees self.old) (agrees self.new) };
+        ensures kept { SeesMore (agrees self.old) (agrees self.new) }
+        ensures stays { stays self.old self.new };
+
+    ghost onward: { IsOnward stays };
 }
 
 /// The samples of a block, frame by frame, each frame in channel order.
@@ -33,15 +45,17 @@ pub struct HeldBlocks<'a> {
 impl<'a> HeldBlocks<'a> {
     /// The blocks of these places.
     pub fn new(blocks: &'a [Option<Block>]) -> HeldBlocks<'a>
-        ensures { OfAgreed (AreListed blocks.now) (⟦<HeldBlocks<'static> as Samples>⟧.agrees result) }
+        ensures { OfAgreed (AreListed blocks.now)
+            (⟦<HeldBlocks<'static> as Samples>⟧.agrees result) }
     {
         HeldBlocks { blocks }
     }
 
-    /// Whether the block of each of the device's inputs, where there is one, has all frames of a tick.
+    /// Whether the block of each of the device's inputs, where there is one, has all frames of a
+    /// tick.
     pub fn fit(&self, device: &Device) -> bool
-        ensures { result ≡ true → OfAgreed (⟦<HeldBlocks<'static> as Samples>⟧.agrees self.now) (λ b.
-            HaveFrames device.now.inputs b device.now.rate.frames) }
+        ensures { IsTrue result ↔ OfAgreed (⟦<HeldBlocks<'static> as Samples>⟧.agrees self.now)
+            (λ b. HaveFrames device.now.inputs b device.now.rate.frames) }
     {
         let frames = device.rate().frames;
         for number in 0..device.inputs() {
@@ -56,7 +70,8 @@ impl<'a> HeldBlocks<'a> {
 /// Whether the block of an input, where there is one, has so many frames.
 fn has_frames(blocks: &[Option<Block>], number: u8, input: &Input, frames: u16) -> bool
     requires { length input.now.labels ≤ MOST_CHANNELS }
-    ensures { IsTrue result ↔ HasFrames (listed blocks.now number) (length input.now.labels) frames }
+    ensures { IsTrue result
+        ↔ HasFrames (listed blocks.now number) (length input.now.labels) frames }
 {
     match block_at(blocks, number) {
         Some(samples) => frames as usize * input.channels() <= samples.len(),
@@ -66,6 +81,10 @@ fn has_frames(blocks: &[Option<Block>], number: u8, input: &Input, frames: u16) 
 
 impl<'a> Samples for HeldBlocks<'a> {
     ghost agrees = { λ s. AreListed s.blocks.now };
+
+    ghost stays = { λ before after. after.blocks.now ≡ before.blocks.now };
+
+    ghost onward = { record { still = λ a. refl; on = λ a b c f g. g ∙ f } };
 
     fn copy_channel(
         &mut self,
@@ -95,8 +114,8 @@ pub(crate) fn block_at(blocks: &[Option<Block>], input: u8) -> Option<&[i32]>
     }
 }
 
-/// The samples of a channel of a block, which has so many, from a frame on: the body of a source in memory. Out of line, so that
-/// its loop keeps its registers.
+/// The samples of a channel of a block, which has so many, from a frame on: the body of a source in
+/// memory. Out of line, so that its loop keeps its registers.
 #[inline(never)]
 pub fn copy_from_block(
     samples: &[i32],

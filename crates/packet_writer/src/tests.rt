@@ -245,7 +245,7 @@ fn flags(rt: HostRuntime) -> Result<(), Fail> {
         }
         let mut found = [true, false];
         mark_named(&OneRow::new(&row), FRAMES, &mut found);
-        assert!(rt; look_at_marked(&mut HeldBlocks::new(&blocks), &mut found));
+        assert!(rt; look_at_marked(&mut HeldBlocks::new(&blocks), &mut found).is_none());
         assert_eq!(rt; found, wanted);
     }
     Ok(())

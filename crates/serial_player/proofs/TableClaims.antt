@@ -1,6 +1,6 @@
 -- A claim of a table is that of the blocks which the table has at its tick.
-use Rattle.std.proofs.Common.{◌≡◌, ℕ, ◌<◌, Bool, true, false, List, [], length, ℤ, Option, Some, sym, ap, ◌∙◌}
-use Rattle.std.specs.Prelude.{◌&&◌, is_some}
+use Rattle.std.proofs.Common.{◌≡◌, ℕ, ◌<◌, Bool, true, false, true≢false, List, [], length, ℤ, Option, Some, None, sym, ap, ◌∙◌}
+use Rattle.std.specs.Prelude.{◌&&◌, is_some, IfNone}
 use Rattle.std.specs.Option.{unwrap_or}
 use Rattle.map_entry.specs.Entry.{selected}
 use Rattle.map_entry.specs.Setup.{SetupParts}
@@ -25,6 +25,11 @@ rows_are s entries k output tick row is out at frame =
 pub flag_is : (named there flag marked : Bool) → marked ≡ named → (marked ≡ true → flag ≡ there) → (marked ≡ false → flag ≡ false) → flag ≡ (named && there)
 flag_is true there flag marked is seen other = seen is
 flag_is false there flag marked is seen other = other is
+
+-- what holds where there is none
+pub when_none : {A P : Type 0} (x : Option A) → is_some x ≡ false → IfNone x P → P
+when_none None none then = then
+when_none (Some a) none then = absurd (true≢false none)
 
 -- flags by the row and the table
 pub flags_closed : (s : SetupParts) (entries : List Entry) (blocks : Blocks) (table : BlockTable) (k : ℕ) (row : List Cell) (found : List Bool)

@@ -1,6 +1,7 @@
 //! The input blocks of a capture, built once for all claims.
 
-ghost use Rattle.std.specs.Prelude.{◌≡◌, ◌≤◌, IfOk, IfSome, IfNone, Some, None, is_some, ℕ, map};
+ghost use Rattle.std.specs.Prelude.{◌≡◌, ◌≤◌, IfOk, IfSome, IfNone, Some, None, is_some, ℕ, map, refl};
+ghost use Rattle.std.proofs.Common.{◌∙◌};
 ghost use Rattle.io_caps.specs.declared.limits.TheConstants.{SESSION_TICKS};
 ghost use Rattle.capture_file.specs.Packets.{packet_at, packets_of};
 ghost use Rattle.serial_player.specs.Table.{placed, table_of};
@@ -87,6 +88,11 @@ fn block_at(table: &[Blocks], place: usize, input: u8) -> Option<&[i32]>
 impl<'a> Samples for TickOf<'a> {
     ghost agrees = { λ s b. (input : ℕ) → b input ≡ placed s.table.now s.place input };
 
+    ghost stays = { λ before after.
+        (after.table.now ≡ before.table.now) × (after.place ≡ before.place) };
+
+    ghost onward = { record { still = λ a. (refl, refl); on = λ a b c f g. (g.0 ∙ f.0, g.1 ∙ f.1) } };
+
     fn copy_channel(
         &mut self,
         input: u8,
@@ -108,6 +114,11 @@ impl<'a> Looks for TickOf<'a> {
     ghost sees = { λ s input there. there ≡ is_some (placed s.table.now s.place input) };
 
     ghost untold = { λ s input. ⊥ };
+
+    ghost stays = { λ before after.
+        (after.table.now ≡ before.table.now) × (after.place ≡ before.place) };
+
+    ghost onward = { record { still = λ a. (refl, refl); on = λ a b c f g. (g.0 ∙ f.0, g.1 ∙ f.1) } };
 
     fn look(&mut self, input: u8) -> Option<bool> {
         Some(block_at(self.table, self.place, input).is_some())

@@ -38,9 +38,9 @@ fn find(setup: &Setup, row: &[Cell], table: &[Blocks], k: u64, flags: &mut [bool
         && is_some (placed table.now (place_of_claim setup.now k) i)) }
 {
     mark_named(&OneRow::new(row), setup.device.rate().frames, flags);
-    let told = look_at_marked(&mut tick_of(setup, table, k), flags);
+    let untold = look_at_marked(&mut tick_of(setup, table, k), flags);
     // A look at a block in memory always tells.
-    prove!(told);
+    prove!(untold.is_none());
 }
 
 /// Of which inputs the packet of claim `k` finds a block.

@@ -1,4 +1,5 @@
-//! Packets of random bytes, and of random bits behind a head that reads: a builder beside the rule itself.
+//! Packets of random bytes, and of random bits behind a head that reads: a builder beside the rule
+//! itself.
 
 use super::by_hand::build;
 use super::by_rule::{Handed, Verdict, give, hand_out, is_handed, rule};
@@ -8,7 +9,8 @@ use io_caps::{Bytes, Device, ListOf, NoMemory, Width};
 use std::alloc::Global;
 use std::test::Fail;
 
-/// 3 frames a tick, base just before the 32 bits of a timestamp wrap, hold 2; one input of 3 channels of 24 bits.
+/// 3 frames a tick, base just before the 32 bits of a timestamp wrap, hold 2; one input of 3
+/// channels of 24 bits.
 const SHAPE: Shape = Shape {
     frames: 3,
     channels: 3,
@@ -47,8 +49,8 @@ fn noise(alloc: Global, draw: &mut Draw, len: u64) -> Result<Bytes, NoMemory> {
     Ok(bytes)
 }
 
-/// Random bytes behind a head of version 2, whose bits for CSRCs, extension and padding, payload type and timestamp are mostly
-/// such that the packet counts.
+/// Random bytes behind a head of version 2, whose bits for CSRCs, extension and padding, payload
+/// type and timestamp are mostly such that the packet counts.
 fn nearly(alloc: Global, draw: &mut Draw) -> Result<Bytes, NoMemory> {
     let frames = draw.next() % 9;
     let odd = if draw.next() % 8 == 0 {

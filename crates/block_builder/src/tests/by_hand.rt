@@ -49,7 +49,8 @@ fn word(builder: &mut Builder, bytes: &[u8]) -> Result<&'static str, NoMemory> {
     })
 }
 
-/// How many ticks are handed out, how many of them have a block, and the first sample of the last block.
+/// How many ticks are handed out, how many of them have a block, and the first sample of the last
+/// block.
 fn drain(builder: &mut Builder) -> (u64, u64, i32) {
     let mut ticks = 0u64;
     let mut blocks = 0u64;
@@ -83,8 +84,9 @@ fn cut_packet(
     Ok(bytes)
 }
 
-/// Timestamp, mark of the samples, payload type and bytes of each packet; what becomes of it; and how many ticks are handed
-/// out then, how many of them with a block, and the first sample of the last.
+/// Timestamp, mark of the samples, payload type and bytes of each packet; what becomes of it; and
+/// how many ticks are handed out then, how many of them with a block, and the first sample of the
+/// last.
 const STEPS: [(u64, u64, u8, usize, &str, (u64, u64, i32)); 10] = [
     (0, 1, 96, 20, "two", (0, 0, 0)),
     (0, 2, 96, 20, "spent", (0, 0, 0)),

@@ -143,7 +143,8 @@ pub(crate) fn hand_out(
     Ok(())
 }
 
-/// Gives an arrival to a builder, once all closed ticks were handed out, and answers what became of it.
+/// Gives an arrival to a builder, once all closed ticks were handed out, and answers what became of
+/// it.
 pub(crate) fn give(
     builder: &mut Builder,
     arrival: &Arrival,
@@ -162,7 +163,8 @@ pub(crate) fn give(
     Ok(1004)
 }
 
-/// Gives all arrivals to a builder, and answers the first that was told something else than in the script.
+/// Gives all arrivals to a builder, and answers the first that was told something else than in the
+/// script.
 fn play(
     builder: &mut Builder,
     script: &Script,

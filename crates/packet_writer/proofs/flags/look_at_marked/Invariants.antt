@@ -11,4 +11,5 @@ invariant-loop-input g l =
       other : (i : ℕ) → i < l.input → slice_index_or l.fn.flags i false ≡ false → slice_index_or l.flags i false ≡ false;
       ahead : (i : ℕ) → l.input ≤ i → slice_index_or l.flags i false ≡ slice_index_or l.fn.flags i false;
       kept : (i : ℕ) (there : Bool) → sees l.fn.looks i there → sees l.looks i there;
+      stays : g.L.Looks.stays l.fn.looks l.looks;
     }

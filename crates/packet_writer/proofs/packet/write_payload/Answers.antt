@@ -12,6 +12,7 @@ loop-frame-init g c = record {
   len = search rules;
   text = λ b agrees. nothing c.args.output.now.width (c.channels.result * c.bytes.result) c.args.out.now;
   kept = λ b agrees. agrees;
+  stays = g.met.S.Samples.onward.still c.args.source.now;
 }
 
 pub write_piece-requires-clause-row : goal.write_piece-requires-clause-row
@@ -65,4 +66,5 @@ loop-frame-preserved g c =
           (c.write_piece.ensures.text b agrees ∙ ap (λ (n : ℕ). payload_of width (samples_from inputs b (λ f. piece.row.now) n (u - n))) c.piece-piece.ensures.begins) end _
           ∙ ap (λ (n : ℕ). payload_of width (samples_from inputs b rows 0 n)) whole;
       kept = λ b agrees. c.loop-frame.invariant.kept b (c.write_piece.ensures.kept b agrees);
+      stays = g.met.S.Samples.onward.on _ _ _ c.loop-frame.invariant.stays c.write_piece.ensures.stays;
     }

@@ -22,6 +22,7 @@ loop-cell-preserved g c =
           (c.read_cell.ensures.value b agrees ∙ ap (λ (n : ℕ). map (λ f. heard c.args.inputs.now b f (get_or row cell Unrouted)) (range_with_len piece.frame n)) c.loop-cell.invariant.long) (λ d. get_or_default row cell Unrouted d c.loop-cell-test.true)
           (c.loop-cell.invariant.put b (c.read_cell.ensures.kept b agrees));
       kept = λ b agrees. c.loop-cell.invariant.kept b (c.read_cell.ensures.kept b agrees);
+      stays = g.met.S.Samples.onward.on _ _ _ c.loop-cell.invariant.stays c.read_cell.ensures.stays;
     }
 
 pub returns-clause-text : goal.returns-clause-text
