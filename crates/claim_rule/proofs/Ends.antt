@@ -14,6 +14,7 @@ use Rattle.claim_rule.specs.declared.plan.Plan.{Plan}
 use Rattle.claim_rule.specs.declared.plan.Start.{Start}
 use Rattle.claim_rule.specs.declared.view.View.{View}
 use Rattle.claim_rule.specs.declared.view.Draw.{Draw}
+use Rattle.claim_rule.specs.declared.view.Sight.{Sight}
 use Rattle.claim_rule.specs.Claims.{plan_of, tick_of}
 use Rattle.claim_rule.specs.Views.{times, once_below, IsSight, opener, spent}
 use Rattle.claim_rule.specs.Rule.{Shown, IsGood, Fits, IsListed, Kept, Opens}
@@ -64,6 +65,19 @@ stays_selected plan list drawn d g early output =
     ap (λ (l : List Entry). selected l output (tick_of plan d.number)) g.front
     ∙ selected-later due d.found g.rest output (tick_of plan d.number) (g.later early)
 
+-- what is known where so many numbers were drawn
+ends_at : (plan : Plan) (list : List Entry) (draws : List Draw) (seen : List Sight) (drawn : ℕ) → drawn ≡ length draws → drawn ≤ plan.packets + plan.workers
+    → IsListed plan list drawn → All (IsGood plan list drawn) draws → ((number : ℕ) → times number draws ≡ once_below number drawn)
+    → All (IsSight (length list) drawn) seen → Ends plan list draws seen
+ends_at plan list draws seen drawn is most listed good once sights = record {
+  most = omega arith;
+  listed = subst (IsListed plan list) is listed;
+  good = subst (λ (n : ℕ). All (IsGood plan list n) draws) is good;
+  rows = All-weaker (IsGood plan list drawn) (StaysSelected plan list) (stays_selected plan list drawn) draws good;
+  once = λ number. once number ∙ ap (once_below number) is;
+  sights = subst (λ (n : ℕ). All (IsSight (length list) n) seen) is sights;
+}
+
 -- in the end the publisher has every part
 pub ends_so : (start : Start) (id : ℕ) (v : View) (words : List ℕ) (slots : List (List Entry)) → v.publishes ≡ true → v.parts ≡ start.workers
     → Final (Seen (Kept start) id v) words slots → Ends (plan_of start) v.entries v.draws (v.sights ++ v.told)
@@ -74,15 +88,11 @@ ends_so start id v words slots loud whole final =
     let idle : (j : ℕ) (u : View) → j ≢ id → get_elem? s.views j ≡ some u → u.draws ≡ [] = λ j u apart e.
     let two : u.parts + v.parts ≤ sum_by (λ v. v.parts) s.views = two_of (λ (v : View). v.parts) s.views id j v u spent refl at e apart in
     let all = h.parts in (h.seats j u e).idle (omega arith) in
-    let good : All (IsGood plan v.entries x.drawn) v.draws = subst (λ (l : List Entry). All (IsGood plan l x.drawn) v.draws) (sym mine.entries) f.draws in
-    record {
-      drawn = x.drawn;
-      most = most_drawn plan s x h;
-      listed = subst (λ (l : List Entry). IsListed plan l x.drawn) (sym mine.entries) h.listed;
-      good = good;
-      rows = All-weaker (IsGood plan v.entries x.drawn) (StaysSelected plan v.entries) (stays_selected plan v.entries x.drawn) v.draws good;
-      once = λ number.
-          sym (alone (λ (u : View). times number u.draws) s.views id v at (λ j u apart e. ap (times number) (idle j u apart e))) ∙ h.once number;
-      sights = subst (λ (l : List Entry). All (IsSight (length l) x.drawn) (v.sights ++ v.told)) (sym mine.entries)
-          (All-append (IsSight (length x.list) x.drawn) v.sights v.told f.sights f.told);
-    }
+    let count : sum_by (λ v. length v.draws) s.views ≡ length v.draws =
+    alone (λ (u : View). length u.draws) s.views id v at (λ j u apart e. ap length (idle j u apart e)) in
+    ends_at plan v.entries v.draws (v.sights ++ v.told) x.drawn (sym h.count ∙ count) (most_drawn plan s x h)
+    (subst (λ (l : List Entry). IsListed plan l x.drawn) (sym mine.entries) h.listed)
+    (subst (λ (l : List Entry). All (IsGood plan l x.drawn) v.draws) (sym mine.entries) f.draws)
+    (λ number. sym (alone (λ (u : View). times number u.draws) s.views id v at (λ j u apart e. ap (times number) (idle j u apart e))) ∙ h.once number)
+    (subst (λ (l : List Entry). All (IsSight (length l) x.drawn) (v.sights ++ v.told)) (sym mine.entries)
+    (All-append (IsSight (length x.list) x.drawn) v.sights v.told f.sights f.told))

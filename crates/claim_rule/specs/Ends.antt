@@ -17,15 +17,14 @@ StaysSelected plan list d =
     → selected list output (tick_of plan d.number)
     ≡ selected d.found output (tick_of plan d.number)
 
--- All entries, all draws and what was seen, once every pass is back: each number below those drawn
--- was drawn once, and no other; the entries behind those that a draw found count from later ticks,
--- so they change no row of it; and no state seen was beyond.
+-- All entries, all draws and what was seen, once every pass is back: each number below as many as
+-- there are draws was drawn once, and no other; the entries behind those that a draw found count
+-- from later ticks, so they change no row of it; and no state seen was beyond.
 pub record Ends (plan : Plan) (list : List Entry) (draws : List Draw)
     (seen : List Sight) : Type 0 where
-  pub drawn : ℕ
-  pub most : drawn ≤ plan.packets + plan.workers
-  pub listed : IsListed plan list drawn
-  pub good : All (IsGood plan list drawn) draws
+  pub most : length draws ≤ plan.packets + plan.workers
+  pub listed : IsListed plan list (length draws)
+  pub good : All (IsGood plan list (length draws)) draws
   pub rows : All (StaysSelected plan list) draws
-  pub once : (number : ℕ) → times number draws ≡ once_below number drawn
-  pub sights : All (IsSight (length list) drawn) seen
+  pub once : (number : ℕ) → times number draws ≡ once_below number (length draws)
+  pub sights : All (IsSight (length list) (length draws)) seen

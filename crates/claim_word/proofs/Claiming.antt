@@ -27,7 +27,7 @@ use Rattle.claim_word.specs.declared.memory.Memory.{Memory}
 use Rattle.claim_word.specs.declared.span.Span.{Span}
 use Rattle.claim_word.specs.declared.worker.Claim.{Claim}
 use Rattle.claim_word.specs.Faces.{PassFace, IsSpan}
-use Rattle.claim_word.specs.Claims.{claims_of, is_packet, row_words, head_of, HasOver, HasRow, IsClaim, IsFrugal, IsLast, IsLastDraw, IsMemory, IsWorker, read_on}
+use Rattle.claim_word.specs.Claims.{claims_of, is_packet, number_of, row_words, head_of, HasOver, HasRow, IsClaim, IsFrugal, IsLast, IsLastDraw, IsMemory, IsWorker, read_on}
 use Rattle.claim_word.proofs.Remembering.{heads_few, rows_set, rows_there}
 
 -- ---- the last draw
@@ -47,6 +47,14 @@ last_drawn v number found =
 
 pub only_last : (v : View) (number : ℕ) (found : List Entry) (n : ℕ) → IsLastDraw (drew v number found) n → n ≡ number
 only_last v number found n last = sym (ap (λ (d : Draw). d.number) (last_pushed v.draws (draw number found) (draw n found) last))
+
+-- the claim of the number drawn is that of the last draw
+pub last_claimed : (v : View) (number : ℕ) (found : List Entry) (c : Claim) → IsClaim v.plan number found c → IsLast (drew v number found) c
+last_claimed v number found c it =
+    let same : number ≡ number_of v.plan c = let k = it.k in omega arith in record {
+      draw = subst (IsLastDraw (drew v number found)) same (last_drawn v number found);
+      claim = subst (λ (n : ℕ). IsClaim v.plan n found c) same it;
+    }
 
 -- two last draws are one
 pub one_last : (v : View) (n m : ℕ) → IsLastDraw v n → IsLastDraw v m → n ≡ m

@@ -1,7 +1,7 @@
 -- What a publisher keeps as it publishes.
 use Rattle.std.proofs.Common.{◌≡◌, ◌≢◌, ℕ, ◌+◌, ◌-◌, ◌*◌, ◌/◌, ◌%◌, ◌^◌, ◌<◌, ◌≤◌, ◌==◌, Bool, true, false, List, [], ◌∷◌, ◌++◌, length, get_or, min, refl, sym, ap, ◌∙◌, subst, arith, length-append, eq-eqb, ne_eqb}
 use Rattle.std.proofs.lemmas.List.{get_or_append_left}
-use Rattle.std.proofs.lemmas.List.Elements.{All-append, All-contains, All-weaker}
+use Rattle.std.proofs.lemmas.List.Elements.{All-append, All-contains, All-weaker, Contains-push}
 use Rattle.std.specs.List.{All}
 use Rattle.std.specs.Prelude.{MatchBool}
 use Rattle.io_caps.specs.declared.limits.TheConstants.{MOST_CHANNELS}
@@ -18,7 +18,7 @@ use Rattle.claim_rule.specs.Plays.{raw_of, count_of, IsLater, MayPublish}
 use Rattle.claim_word.specs.declared.span.Span.{Span}
 use Rattle.claim_word.specs.declared.state.State.{State}
 use Rattle.claim_word.specs.Passes.{IsPublisher}
-use Rattle.claim_word.specs.States.{ArePublishable, HasSeen, IsMissed, IsPublished}
+use Rattle.claim_word.specs.States.{ArePublishable, HasSeen, IsMissed, IsPublished, having_seen}
 use Rattle.claim_word.specs.Writings.{IsWide, WroteAll}
 use Rattle.claim_word.proofs.Spelling.{wide_of}
 
@@ -103,20 +103,30 @@ pub miss_case : (A B : Type 0) (found expected : ℕ) → found ≢ expected →
 miss_case A B found expected e t = subst (λ (b : Bool). MatchBool b A B) (ne_eqb found expected e) t
 
 pub published_is : (v w : View) (new : List Entry) → WroteAll v w new → IsPublished v (added w new) new
-published_is v w new all = record { view = ap (λ (u : View). added u new) all.only }
+published_is v w new all = ap (λ (u : View). added u new) all.only
 
 -- a number was drawn: what was found differs in the draws alone
-pub missed_is : (v w : View) (new : List Entry) (seen : State) (found : ℕ) → v.live ≡ true → v.publishes ≡ true → WroteAll v w new → HasSeen v seen
-    → found ≢ state_word (length v.entries) seen.raw → IsLater w found → IsMissed v (saw w (raw_of found) (count_of found)) seen.raw (raw_of found)
-missed_is v w new seen found live loud all saw_it apart later =
+pub missed_is : (v w : View) (new : List Entry) (found : ℕ) → v.publishes ≡ true → WroteAll v w new → IsLater w found
+    → IsMissed v (saw w (raw_of found) (count_of found)) (raw_of found)
+missed_is v w new found loud all later =
+    let told = subst (λ (u : View). IsLater u found) all.only later in
+    ap (λ (u : View). saw u (raw_of found) (count_of found)) all.only
+    ∙ ap (λ (n : ℕ). record (saw v (raw_of found) n) { cells = w.cells }) (told.own loud)
+
+pub missed_above : (v w : View) (new : List Entry) (seen : State) (found : ℕ) → v.publishes ≡ true → WroteAll v w new → HasSeen v seen
+    → found ≢ state_word (length v.entries) seen.raw → IsLater w found → seen.raw < raw_of found
+missed_above v w new seen found loud all saw_it apart later =
     let told = subst (λ (u : View). IsLater u found) all.only later in
     let count : count_of found ≡ length v.entries = told.own loud in
     let least : seen.raw ≤ raw_of found = (All-contains (IsSight (count_of found) (raw_of found)) v.sights (sight seen.raw seen.entries) told.sights saw_it.seen).raw in
     let whole : found ≡ count_of found * 2 ^ 32 + raw_of found = omega arith in
-    let differs : raw_of found ≢ seen.raw = λ bad. apart (omega arith) in
-    record {
-      above = omega arith;
-      most = told.most live;
-      view = ap (λ (u : View). saw u (raw_of found) (count_of found)) all.only
-          ∙ ap (λ (n : ℕ). record (saw v (raw_of found) n) { cells = w.cells }) count;
-    }
+    let differs : raw_of found ≢ seen.raw = λ bad. apart (omega arith) in omega arith
+
+pub missed_most : (v w : View) (new : List Entry) (found : ℕ) → v.live ≡ true → WroteAll v w new → IsLater w found
+    → raw_of found ≤ v.plan.packets + v.plan.workers
+missed_most v w new found live all later = (subst (λ (u : View). IsLater u found) all.only later).most live
+
+-- ---- a look
+
+pub has_seen : (v : View) (s : State) → s.claims ≡ claims_at v.plan s.raw → s.entries ≡ length v.entries → HasSeen (having_seen v s) s
+has_seen v s claims entries = record { seen = Contains-push v.sights (sight s.raw s.entries); claims = claims; entries = entries }

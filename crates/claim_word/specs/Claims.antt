@@ -1,5 +1,5 @@
 -- What a claim says, and what a worker's pass keeps. (This project's own.)
-use Rattle.std.specs.Prelude.{◌≡◌, ℕ, ◌+◌, ◌-◌, ◌*◌, ◌<◌, ◌≤◌, ◌⊎◌, Bool, true, false, nat_lt, cond, not, ◌&&◌, eqb, List, [], ◌∷◌, ◌++◌, map, filter, length, Some, slice_get, slice_index_or, MatchBool, vec_capacity}
+use Rattle.std.specs.Prelude.{◌≡◌, ℕ, ◌+◌, ◌-◌, ◌*◌, ◌<◌, ◌≤◌, Bool, true, false, nat_lt, cond, not, ◌&&◌, eqb, List, [], ◌∷◌, ◌++◌, map, filter, length, Some, slice_get, slice_index_or, MatchBool, vec_capacity}
 use Rattle.std.specs.List.{All, AllZip, sum_by}
 use Rattle.map_entry.specs.declared.cell.Cell.{Cell}
 use Rattle.map_entry.specs.declared.entry.Entry.{Entry}
@@ -30,27 +30,41 @@ pub record IsClaim (plan : Plan) (number : ℕ) (found : List Entry) (c : Claim)
   pub output : c.output ≡ output_of plan number
   pub entries : c.entries ≡ length found
 
--- the pass drew a number, while these entries were published, which begin with those that it had found before
-pub record IsDrawn (p q : PassFace) (number : ℕ) (found : List Entry) : Type 0 where
+-- the number that was drawn for a claim: from 0 on
+abbrev pub number_of : Plan → Claim → ℕ
+number_of plan c = c.k - plan.from
+
+-- the pass drew a number, while the entries that it knows now were published, which begin with those that it had found before
+pub record IsDrawn (p q : PassFace) (number : ℕ) : Type 0 where
   pub was : p.ended ≡ false
   pub id : q.id ≡ p.id
-  pub view : q.view ≡ drew p.view number found
-  pub more : Begins p.view.entries found
+  pub view : q.view ≡ drew p.view number q.view.entries
+  pub more : Begins p.view.entries q.view.entries
 
--- A claim is that of the number drawn. It is over where the number drawn is past the packets, and from then on.
-abbrev pub IsClaimed : PassFace → PassFace → Claimed → Type 0
-IsClaimed p q (Packet c) = (number : ℕ) × (found : List Entry) × IsDrawn p q number found × (q.ended ≡ false) × IsClaim p.view.plan number found c
-IsClaimed p q Over =
-    (q.ended ≡ true)
-    × (((p.ended ≡ true) × (q ≡ p)) ⊎ ((number : ℕ) × (found : List Entry) × IsDrawn p q number found × (p.view.plan.packets ≤ number)))
+-- the pass drew a number past the packets
+pub record IsLate (p q : PassFace) : Type 0 where
+  pub number : ℕ
+  pub late : p.view.plan.packets ≤ number
+  pub drawn : IsDrawn p q number
 
 -- the last draw of a view
 abbrev pub IsLastDraw : View → ℕ → Type 0
 IsLastDraw v number = slice_get v.draws (length v.draws - 1) ≡ Some (draw number v.entries)
 
--- the claim is that of the pass's last draw
-abbrev pub IsLast : PassFace → Claim → Type 0
-IsLast p c = (number : ℕ) × IsLastDraw p.view number × IsClaim p.view.plan number p.view.entries c
+-- the claim is that of a view's last draw
+pub record IsLast (v : View) (c : Claim) : Type 0 where
+  pub draw : IsLastDraw v (number_of v.plan c)
+  pub claim : IsClaim v.plan (number_of v.plan c) v.entries c
+
+-- what holds of the claim, where a packet was claimed
+abbrev pub OnPacket : Claimed → (Claim → Type 0) → Type 0
+OnPacket (Packet c) P = P c
+OnPacket Over P = Unit {0}
+
+-- whether all packets were claimed
+abbrev pub is_over : Claimed → Bool
+is_over (Packet c) = false
+is_over Over = true
 
 -- a pass that is over drew a number past the packets
 pub record HasOver (packets : ℕ) (draws : List Draw) : Type 0 where

@@ -44,15 +44,12 @@ pub record ArePublishable (s : SetupParts) (claims : ℕ) (entries new : List En
   pub timely : All (λ e. first_tick s.device.base (length s.device.outputs) e.at ≤ due e) new
 
 -- the new entries stand behind the others, all at once, and nothing else changes but the words of places
-pub record IsPublished (v w : View) (new : List Entry) : Type 0 where
-  pub view : w ≡ record v { entries = v.entries ++ new; cells = w.cells }
+abbrev pub IsPublished : View → View → List Entry → Type 0
+IsPublished v w new = w ≡ record v { entries = v.entries ++ new; cells = w.cells }
 
--- A number was drawn: no entry is published, and a state was seen that is above the one given. So there are at most so many such answers
--- as packets and workers.
-pub record IsMissed (v w : View) (seen raw : ℕ) : Type 0 where
-  pub above : seen < raw
-  pub most : raw ≤ v.plan.packets + v.plan.workers
-  pub view : w ≡ record (saw v raw (length v.entries)) { cells = w.cells }
+-- so many numbers were drawn: this was seen, no entry is published, and nothing else changes but the words of places
+abbrev pub IsMissed : View → View → ℕ → Type 0
+IsMissed v w raw = w ≡ record (saw v raw (length v.entries)) { cells = w.cells }
 
 -- whether an entry counted from a tick above the first one not begun when it came to the table
 abbrev pub is_above : Plan → Entry → Bool

@@ -1,10 +1,11 @@
 //! How a table ends.
 
-ghost use Rattle.std.specs.Prelude.{◌≡◌, ◌≤◌, ◌+◌, true, ◌++◌, length, map, vec_len, vec_capacity};
+ghost use Rattle.std.specs.Prelude.{◌≡◌, ◌≤◌, ◌+◌, ℕ, true, ◌++◌, length, map, vec_len, vec_capacity};
 ghost use Rattle.std.specs.List.{All, list_any};
 ghost use Rattle.claim_word.specs.Faces.{IsPassOf, IsClientOf, IsPublisherOf};
 ghost use Rattle.claim_word.specs.Claims.{HasOver};
-ghost use Rattle.claim_word.specs.Endings.{IsEnded, claims_by, draws_in, with_clients, with_workers};
+ghost use Rattle.claim_rule.specs.Ends.{Ends};
+ghost use Rattle.claim_word.specs.Endings.{all_seen, claims_by, draws_in, once_claimed, times_claimed, with_clients, with_workers};
 
 use crate::client::ClientPass;
 use crate::publisher::Publisher;
@@ -29,7 +30,11 @@ impl ClaimTable {
         requires publisher { IsPublisherOf self publisher }
         requires workers { All (IsPassOf self) workers × (length workers ≡ publisher.made) }
         requires clients { All (IsClientOf self) clients × (length clients ≡ publisher.clients) }
-        ensures { IsEnded self publisher workers clients result }
+        ensures entries { result.entries ≡ publisher.view.entries }
+        ensures claims { result.claims ≡ map (claims_by self.plan) workers }
+        ensures ends { Ends self.plan publisher.view.entries (draws_in workers) (all_seen publisher clients) }
+        ensures numbers { (k : ℕ) → times_claimed k result.claims ≡ once_claimed self.plan (length (draws_in workers)) k }
+        ensures full { list_any (λ w. w.ended) workers ≡ true → self.plan.packets ≤ length (draws_in workers) }
     {
         let Publisher {
             mut seat,

@@ -9,7 +9,7 @@ ghost use Rattle.claim_rule.specs.Claims.{IsFit, IsSound, tick_of};
 ghost use Rattle.claim_rule.specs.Words.{places};
 ghost use Rattle.claim_rule.specs.Views.{Begins};
 ghost use Rattle.claim_word.specs.declared.memory.Head.{Head as HeadValue};
-ghost use Rattle.claim_word.specs.Claims.{head_of, head_rules, read_on, HasRow, IsClaim, IsLastDraw, IsMemory};
+ghost use Rattle.claim_word.specs.Claims.{head_of, head_rules, read_on, IsLast, IsMemory};
 
 use crate::read::{load, read_row};
 use crate::table::ClaimTable;
@@ -78,7 +78,7 @@ impl Memory {
         requires memory { IsMemory seat.old.me.0 self.old }
         requires entries { (length seat.old.me.0.entries ≤ places) × All (IsFit seat.old.me.0.plan) seat.old.me.0.entries }
         requires covers { HasRowsFrom seat.old.me.0.plan.setup.device seat.old.me.0.entries (tick_of seat.old.me.0.plan 0) }
-        requires last { (number : ℕ) × IsLastDraw seat.old.me.0 number × IsClaim seat.old.me.0.plan number seat.old.me.0.entries claim.now }
+        requires last { IsLast seat.old.me.0 claim.now }
         ensures seat { (seat.new.table_id ≡ seat.old.table_id) × (seat.new.id ≡ seat.old.id) }
         ensures view { (n : ℕ) × (seat.new.me ≡ (read_on seat.old.me.0 n, seat.old.me.1)) }
         ensures memory { IsMemory seat.new.me.0 self.new }

@@ -1,6 +1,6 @@
 //! The one that publishes entries.
 
-ghost use Rattle.std.specs.Prelude.{◌≡◌, ◌^◌, ◌<◌, ◌≤◌, nat_lt, max, length, count_by, MatchResult};
+ghost use Rattle.std.specs.Prelude.{◌≡◌, ◌+◌, ◌^◌, ◌<◌, ◌≤◌, nat_lt, max, length, count_by, OnOk, IfErr};
 ghost use Rattle.std.specs.List.{All};
 ghost use Rattle.map_entry.specs.Tick.{first_tick};
 ghost use Rattle.map_entry.specs.Entry.{due};
@@ -73,6 +73,7 @@ impl Publisher {
         ensures of { IsPublisherOf table.now self.new }
         ensures state { IsState self.old.view result }
         ensures own { result.entries ≡ length self.old.view.entries }
+        ensures seen { HasSeen self.new.view result }
     {
         let word = table.table.shared.load::<Sees>(&mut self.seat, 0);
         self.span.state(word)
@@ -91,7 +92,10 @@ impl Publisher {
         requires entries { ArePublishable self.old.view.plan.setup seen.claims self.old.view.entries entries.now }
         ensures pass { self.new ≡ record self.old { view = self.new.view } }
         ensures of { IsPublisherOf table.now self.new }
-        ensures published { MatchResult result (λ _. IsPublished self.old.view self.new.view entries.now) (λ m. IsMissed self.old.view self.new.view seen.raw m.raw) }
+        ensures published { OnOk result (IsPublished self.old.view self.new.view entries.now) }
+        ensures missed { IfErr result (λ m. IsMissed self.old.view self.new.view m.raw) }
+        ensures above { IfErr result (λ m. seen.raw < m.raw) }
+        ensures most { IfErr result (λ m. m.raw ≤ self.old.view.plan.packets + self.old.view.plan.workers) }
     {
         let new = entries.as_slice();
         let count = self.shelf.len();

@@ -1,11 +1,11 @@
 //! A worker's pass: claims, and the rows that rule them.
 
-ghost use Rattle.std.specs.Prelude.{ℕ, ◌≡◌, ◌+◌, ◌<◌, ◌≤◌, Some, length};
-ghost use Rattle.io_caps.specs.declared.limits.TheConstants.{MOST_CHANNELS};
+ghost use Rattle.std.specs.Prelude.{◌≡◌, ◌<◌, true, false, Some};
 ghost use Rattle.map_entry.specs.Entry.{selected};
-ghost use Rattle.map_entry.specs.Row.{channels_of_output};
+ghost use Rattle.map_entry.specs.Row.{IsRowOf};
+ghost use Rattle.claim_rule.specs.Claims.{IsSound, outputs_of};
 ghost use Rattle.claim_word.specs.Faces.{IsPassOf};
-ghost use Rattle.claim_word.specs.Claims.{IsClaimed, IsFrugal, IsLast};
+ghost use Rattle.claim_word.specs.Claims.{IsDrawn, IsFrugal, IsLast, IsLate, OnPacket, is_over, number_of};
 
 use crate::memory::Memory;
 use crate::span::Span;
@@ -91,8 +91,14 @@ impl WorkerPass {
     /// step.
     pub fn claim(&mut self, table: &ClaimTable) -> Claimed
         requires { IsPassOf table.now self.old }
-        ensures pass { IsPassOf table.now self.new }
-        ensures claimed { IsClaimed self.old self.new result }
+        ensures of { IsPassOf table.now self.new }
+        ensures drawn { OnPacket result (λ c. IsDrawn self.old self.new (number_of self.old.view.plan c)) }
+        ensures last { OnPacket result (IsLast self.new.view) }
+        ensures there { OnPacket result (λ c. c.output < outputs_of self.old.view.plan) }
+        ensures ended { self.new.ended ≡ is_over result }
+        ensures late { is_over result ≡ true → self.old.ended ≡ false → IsLate self.old self.new }
+        ensures stays { self.old.ended ≡ true → self.new ≡ self.old }
+        ensures sound { IsSound self.new.view.plan }
         ensures loads { IsFrugal self.new.view }
     {
         if self.ended {
@@ -118,10 +124,10 @@ impl WorkerPass {
     /// The row that rules the claim's packet, by the entries that its draw found. The claim is the pass's last.
     pub fn row(&mut self, table: &ClaimTable, claim: &Claim) -> &Row
         requires pass { IsPassOf table.now self.old }
-        requires last { IsLast self.old claim.now }
+        requires last { IsLast self.old.view claim.now }
         ensures* after { sem 𝓛 (EndsRead self.entry claim.now) }
         ensures row { selected self.old.view.entries claim.now.output claim.now.tick ≡ Some result.now }
-        ensures long { length result.now ≡ channels_of_output self.old.view.plan.setup.device claim.now.output }
+        ensures fits { IsRowOf self.old.view.plan.setup.device claim.now.output result.now }
     {
         self.memory.find(table, &mut self.seat, claim);
         &self.memory.rows[claim.output as usize]

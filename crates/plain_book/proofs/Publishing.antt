@@ -1,11 +1,12 @@
 -- What an accepted activation makes, and that it can be published.
-use Rattle.std.proofs.Common.{◌≡◌, ℕ, ◌+◌, ◌*◌, ◌≤◌, List, [], ◌∷◌, ◌++◌, length, map, Option, Some, None, refl, sym, ap, ◌∙◌, subst, arith, length-append}
+use Rattle.std.proofs.Common.{◌≡◌, ℕ, ◌+◌, ◌*◌, ◌<◌, ◌≤◌, List, [], ◌∷◌, ◌++◌, length, map, Option, Some, None, refl, sym, ap, ◌∙◌, subst, arith, length-append}
 use Rattle.std.specs.Prelude.{All}
 use Rattle.std.proofs.lemmas.List.Elements.{All-nil, All-cons}
 use Rattle.io_caps.specs.declared.limits.TheConstants.{PLACES}
 use Rattle.map_entry.specs.Action.{OutputChangeParts}
 use Rattle.map_entry.specs.Entry.{IsEntryOk, due}
 use Rattle.map_entry.specs.Setup.{SetupParts}
+use Rattle.tai_time.specs.Time.{nanos_limit}
 use Rattle.map_entry.specs.declared.entry.Entry.{Entry}
 use Rattle.plain_book.specs.Book.{call_of}
 use Rattle.plain_book.specs.Calls.{journal_call}
@@ -13,7 +14,7 @@ use Rattle.plain_book.specs.Desk.{IsDecided, IsDesk, IsMade, KeptParts, item_abo
 use Rattle.plain_book.specs.Full.{places_each}
 use Rattle.plain_book.specs.Journal.{call_entries, change_entry, changes_of, kept_entry, request_entries, entries_of}
 use Rattle.plain_book.specs.Replies.{accepted}
-use Rattle.plain_book.specs.Time.{begin}
+use Rattle.plain_book.specs.Time.{begin, start}
 use Rattle.plain_book.specs.declared.calls.JournalCall.{JournalCall}
 use Rattle.plain_book.specs.declared.kept.Made.{Made}
 use Rattle.plain_book.specs.declared.replies.Activation.{Activation}
@@ -25,7 +26,9 @@ use Rattle.plain_book.specs.declared.requests.When.{When}
 use Rattle.plain_book.proofs.Accepted.{called}
 use Rattle.plain_book.proofs.Alike.{all_right, changes_alike}
 use Rattle.plain_book.proofs.Keeping.{IsNew, desk_entries, new_desk, new_reply, has_outputs, since_at}
+use Rattle.plain_book.proofs.Lists.{in_last}
 use Rattle.plain_book.proofs.Locks.{is_free}
+use Rattle.plain_book.proofs.Timing.{have_starts}
 
 all_at : {X : Type 0} (claims : ℕ) (f : X → Entry) → ((x : X) → (f x).at ≡ claims) → (xs : List X) → All (λ e. e.at ≡ claims) (map f xs)
 all_at claims f each [] = All-nil (λ (e : Entry). e.at ≡ claims)
@@ -36,6 +39,17 @@ request_ats s before entries claims tick (Activate when action) = all_at claims 
 request_ats s before entries claims tick (Delete id) = all_at claims (kept_entry s entries claims tick) (λ c. refl) (changes_of s before claims id)
 request_ats s before entries claims tick Active = All-nil (λ (e : Entry). e.at ≡ claims)
 request_ats s before entries claims tick Pending = All-nil (λ (e : Entry). e.at ≡ claims)
+
+all_due : {X : Type 0} (P : ℕ → Type 0) (tick : ℕ) (f : X → Entry) → P tick → ((x : X) → due (f x) ≡ tick) → (xs : List X) → All (λ e. P (due e)) (map f xs)
+all_due P tick f holds each [] = All-nil (λ (e : Entry). P (due e))
+all_due P tick f holds each (x ∷ xs) = All-cons (λ (e : Entry). P (due e)) (f x) (map f xs) (subst P (sym (each x)) holds) (all_due P tick f holds each xs)
+
+-- a request's entries count from its tick on
+request_dues : (P : ℕ → Type 0) (s : SetupParts) (before : List JournalCall) (entries : List Entry) (claims tick : ℕ) (request : Request) → P tick → All (λ e. P (due e)) (request_entries s before entries claims tick request)
+request_dues P s before entries claims tick (Activate when action) holds = all_due P tick (change_entry s entries claims tick action) holds (λ c. refl) action
+request_dues P s before entries claims tick (Delete id) holds = all_due P tick (kept_entry s entries claims tick) holds (λ c. refl) (changes_of s before claims id)
+request_dues P s before entries claims tick Active holds = All-nil (λ (e : Entry). P (due e))
+request_dues P s before entries claims tick Pending holds = All-nil (λ (e : Entry). P (due e))
 
 -- what the entries of a call are, where the book is one with them
 pub made_of : (s : SetupParts) (claims : ℕ) (entries : List Entry) (p : KeptParts) (m : Made) → m.call.at ≡ claims → m.entries ≡ call_entries s p.journal entries m.call → m.entries ≡ call_entries s p.journal (entries_of s p.journal) m.call
@@ -52,6 +66,8 @@ made_of s claims entries p m at is whole after =
         ats = rw is (subst (λ (k : ℕ). All (λ e. e.at ≡ k) (call_entries s p.journal entries m.call)) at (request_ats s p.journal entries m.call.at m.call.tick m.call.request));
         rows = all_right (IsEntryOk s.device) entries m.entries all.rows;
         timely = all_right (λ (e : Entry). begin s e.at ≤ due e) entries m.entries all.timely;
+        starts = rw is (request_dues (λ (key : ℕ). start s key < nanos_limit) s p.journal entries m.call.at m.call.tick m.call.request
+            (have_starts s p.seen (p.journal ++ m.call ∷ []) after.legal m.call (in_last p.journal m.call)));
       };
     }
 

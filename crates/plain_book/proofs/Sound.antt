@@ -220,3 +220,7 @@ entries_are s m journal checked some legal =
 -- what is selected for an output is a row of it
 pub row_is : (s : SetupParts) (since : ℕ) (entries : List Entry) (output tick : ℕ) (row : List Cell) → AreEntries s since entries → selected entries output tick ≡ Some row → IsRowOf s.device output row
 row_is s since entries output tick row are is = selected_has (IsRowOf s.device) entries output tick row (recursion_from_All (IsEntryOk s.device) entries are.rows) is
+
+-- each output has a row
+pub has_row : (s : SetupParts) (since : ℕ) (entries : List Entry) (output : ℕ) → AreEntries s since entries → output < length s.device.outputs → IsSome (selected entries output since)
+has_row s since entries output are low = are.cover output since low (omega arith)

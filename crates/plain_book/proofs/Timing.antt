@@ -5,7 +5,7 @@ use Rattle.std.specs.Int.{div_ceil}
 use Rattle.std.proofs.lemmas.Bool.{or_parts, ltb-true, lt-ltb, false≢true}
 use Rattle.std.proofs.lemmas.List.Elements.{All-from_recursion}
 use Rattle.std.proofs.lemmas.Grind.{div_ceil_times}
-use Rattle.std.proofs.Math.Nat.{add-mul, div-lt_iff_lt-mul, mul-div_cancel, mul-le-mul_right, mul_assoc}
+use Rattle.std.proofs.Math.Nat.{add-mul, div-lt_iff_lt-mul, mul-div_cancel, mul-le-mul_left, mul-le-mul_right, mul_assoc}
 use Rattle.io_caps.specs.declared.limits.TheConstants.{TICKS_PAST_BASE}
 use Rattle.tai_time.specs.Time.{nanos_limit}
 use Rattle.map_entry.specs.Action.{OutputChangeParts}
@@ -56,10 +56,20 @@ pub all_start : (s : SetupParts) (m : ℕ) (journal : List JournalCall) → IsLe
 all_start s m journal legal =
     All-from_recursion (λ (call : JournalCall). start s (call_due call) < nanos_limit) journal (all_from_in (λ (call : JournalCall). start s (call_due call) < nanos_limit) journal (have_starts s m journal legal))
 
--- ---- within a session
-
 hz_some : (s : SetupParts) → IsSetup s → 0 < s.device.rate.hz
 hz_some s is = let rate = is.device.bounds.rate in grind (arith, rate)
+
+-- a key that begins before the end of time is below 2^58: no rate has more than 192000 frames a second
+pub key_below : (s : SetupParts) (key : ℕ) → IsSetup s → start s key < nanos_limit → key < 2 ^ 58
+key_below s key is lt =
+    let f : ℕ = s.device.rate.frames in
+    let rate = is.device.bounds.rate in
+    let below : key * (f * 10 ^ 9) < nanos_limit * s.device.rate.hz = (div-lt_iff_lt-mul {x = key * (f * 10 ^ 9)} {y = nanos_limit} (hz_some s is)).0 lt in
+    let least : key * (1 * 10 ^ 9) ≤ key * (f * 10 ^ 9) = mul-le-mul_left key (mul-le-mul_right (10 ^ 9) rate.1) in
+    let most : s.device.rate.hz ≤ 192000 = grind (arith, rate) in
+    omega (arith, below, least, most)
+
+-- ---- within a session
 
 -- a tick that is not too far from the device's first one begins before the end of time
 start_in_time : (s : SetupParts) (tick : ℕ) → IsSetup s → tick ≤ s.device.base + TICKS_PAST_BASE → start s tick < nanos_limit

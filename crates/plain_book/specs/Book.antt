@@ -1,5 +1,6 @@
--- The one-thread book: what it answers to a request at a journal and a number of claims, and the call that an accepted request
--- becomes. (After AMWA IS-08 v1.0: `/map/activations` and `/map/active`; the order of the refusals is this project's own.)
+-- The one-thread book: what it answers to a request at a journal and a number of claims, and the
+-- call that an accepted request becomes. (After AMWA IS-08 v1.0: `/map/activations` and
+-- `/map/active`; the order of the refusals is this project's own.)
 use Rattle.std.specs.Prelude.{ℕ, nat_lt, not, List, [], ◌∷◌, length, map, Option, Some, None, option_map, if◌then◌else◌, find}
 use Rattle.std.specs.List.{range_with_len}
 use Rattle.std.specs.Option.{option_or, option_map_or}
@@ -25,8 +26,8 @@ use Rattle.plain_book.specs.Journal.{entries_of, row_from}
 use Rattle.plain_book.specs.Pending.{next_id, pending_of, pending_call, is_locked, last_of}
 use Rattle.plain_book.specs.Full.{full_by}
 
--- ---- refusals of an activation. Each kind is told of the lowest output, and then of the lowest channel: outputs and channels of
--- an action ascend, so it is the first.
+-- ---- refusals of an activation. Each kind is told of the lowest output, and then of the lowest
+-- channel: outputs and channels of an action ascend, so it is the first.
 
 -- what is told of the first item of which something is told
 abbrev pub first_some : {X Y : Type 0} → (X → Option Y) → List X → Option Y
@@ -52,7 +53,9 @@ bad_channel_of channels changes = find (λ change. not (nat_lt change.channel ch
 
 -- a channel of a change isn't one of its output
 abbrev pub bad_channel_at : DeviceParts → OutputChangeParts → Option Refusal
-bad_channel_at d c = option_map (λ change. BadChannel c.output change.channel) (bad_channel_of (channels_of_output d c.output) c.changes)
+bad_channel_at d c =
+    option_map (λ change. BadChannel c.output change.channel)
+    (bad_channel_of (channels_of_output d c.output) c.changes)
 
 -- the lowest such output, with its lowest such channel
 abbrev pub bad_channel_by : DeviceParts → List OutputChangeParts → Option Refusal
@@ -60,27 +63,33 @@ bad_channel_by d action = first_some (bad_channel_at d) action
 
 -- the output of a change is locked
 abbrev pub locked_at : SetupParts → List JournalCall → ℕ → OutputChangeParts → Option Refusal
-locked_at s journal claims c = if is_locked s journal claims c.output then Some (Locked c.output) else None
+locked_at s journal claims c =
+    if is_locked s journal claims c.output then Some (Locked c.output) else None
 
 -- the lowest locked output
 abbrev pub locked_by : SetupParts → List JournalCall → ℕ → List OutputChangeParts → Option Refusal
 locked_by s journal claims action = first_some (locked_at s journal claims) action
 
--- the row that the output of a change would have fails the check: its row from the first tick on that has not begun, with the
--- named channels replaced
-abbrev pub bad_row_at : SetupParts → List Entry → ℕ → List OutputChangeParts → OutputChangeParts → Option Refusal
-bad_row_at s entries claims action c = option_map (Row c.output) (row_fault s.device c.output (applied (row_from s entries c.output claims) action c.output))
+-- the row that the output of a change would have fails the check: its row from the first tick on
+-- that has not begun, with the named channels replaced
+abbrev pub bad_row_at : SetupParts → List Entry → ℕ → List OutputChangeParts → OutputChangeParts
+    → Option Refusal
+bad_row_at s entries claims action c =
+    option_map (Row c.output)
+    (row_fault s.device c.output (applied (row_from s entries c.output claims) action c.output))
 
 -- the lowest output whose row would fail
 abbrev pub bad_row_by : SetupParts → List JournalCall → ℕ → List OutputChangeParts → Option Refusal
-bad_row_by s journal claims action = first_some (bad_row_at s (entries_of s journal) claims action) action
+bad_row_by s journal claims action =
+    first_some (bad_row_at s (entries_of s journal) claims action) action
 
 -- the activation would count from past the end of time
 abbrev pub time_by : SetupParts → ℕ → When → Option Refusal
 time_by s claims when = if is_time_over s claims when then Some Time else None
 
 -- the first refusal that applies, in this order
-unfoldable pub refusal_of : SetupParts → List JournalCall → ℕ → When → List OutputChangeParts → Option Refusal
+unfoldable pub refusal_of : SetupParts → List JournalCall → ℕ → When → List OutputChangeParts
+    → Option Refusal
 refusal_of s journal claims when action =
     option_or (empty_by action)
     (option_or (unknown_by s.device action)
@@ -92,11 +101,13 @@ refusal_of s journal claims when action =
 
 -- ---- replies
 
--- the active map at a journal and a number of claims: the rows from the first tick on that has not begun
+-- the active map at a journal and a number of claims: the rows from the first tick on that has not
+-- begun
 abbrev pub view_of : SetupParts → List JournalCall → ℕ → ActiveView
 view_of s journal claims =
     active_view (option_map shown (last_of s journal claims))
-    (map (λ output. row_from s (entries_of s journal) output claims) (range_with_len 0 (length s.device.outputs)))
+    (map (λ output. row_from s (entries_of s journal) output claims)
+    (range_with_len 0 (length s.device.outputs)))
 
 -- the tick that an accepted activation is told
 abbrev pub landing_tick : SetupParts → ℕ → When → ℕ
@@ -105,7 +116,8 @@ landing_tick s claims when = tick_in s (land s claims when)
 -- the book's reply to a request at a journal and a number of claims
 unfoldable pub reply_of : SetupParts → List JournalCall → ℕ → Request → Reply
 reply_of s journal claims (Activate when action) =
-    option_map_or Refused (refusal_of s journal claims when action) (accepted when (next_id journal) (landing_tick s claims when))
+    option_map_or Refused (refusal_of s journal claims when action)
+    (accepted when (next_id journal) (landing_tick s claims when))
 reply_of s journal claims (Delete id) =
     option_map_or (λ call. Deleted id) (pending_call s journal claims id) (Refused (NotPending id))
 reply_of s journal claims AskActive = Active (view_of s journal claims)
@@ -119,9 +131,12 @@ deletion client claims request call = journal_call claims client 0 call.tick req
 
 -- the call that a request becomes by its reply, where that accepts it
 abbrev pub call_of : SetupParts → List JournalCall → ℕ → ℕ → Request → Reply → Option JournalCall
-call_of s journal client claims request (Activated id tick) = Some (journal_call claims client id tick request)
-call_of s journal client claims request (Scheduled id tick) = Some (journal_call claims client id tick request)
-call_of s journal client claims request (Deleted id) = option_map (deletion client claims request) (pending_call s journal claims id)
+call_of s journal client claims request (Activated id tick) =
+    Some (journal_call claims client id tick request)
+call_of s journal client claims request (Scheduled id tick) =
+    Some (journal_call claims client id tick request)
+call_of s journal client claims request (Deleted id) =
+    option_map (deletion client claims request) (pending_call s journal claims id)
 call_of s journal client claims request (Active view) = None
 call_of s journal client claims request (Pending items) = None
 call_of s journal client claims request (Refused refusal) = None

@@ -8,9 +8,11 @@ use Rattle.plain_book.specs.declared.requests.When.TheVariants.{Now, At, After}
 use Rattle.plain_book.specs.declared.requests.Request.{Request}
 use Rattle.plain_book.specs.declared.requests.Request.TheVariants.{Activate, Delete, Active, Pending}
 
--- the call that was accepted at so many claims, of a client, with its id, the tick from which it counts, and what was asked
+-- the call that was accepted at so many claims, of a client, with its id, the tick from which it
+-- counts, and what was asked
 abbrev pub journal_call : ℕ → ℕ → ℕ → ℕ → Request → JournalCall
-journal_call at client id tick request = record { at = at; client = client; id = id; tick = tick; request = request }
+journal_call at client id tick request =
+    record { at = at; client = client; id = id; tick = tick; request = request }
 
 -- the key from which a call counts: its tick
 abbrev pub call_due : JournalCall → ℕ

@@ -1,11 +1,13 @@
 -- What an asked book answers, decides and keeps. (This project's own.)
-use Rattle.std.specs.Prelude.{◌≡◌, ℕ, ◌+◌, ◌≤◌, List, [], ◌∷◌, ◌++◌, length, map, filter, find, take, sum_by, eqb, nat_lt, not, Bool, if◌then◌else◌, Option, Some, None, option_map, All, IfSome}
+use Rattle.std.specs.Prelude.{◌≡◌, ℕ, ◌+◌, ◌<◌, ◌≤◌, List, [], ◌∷◌, ◌++◌, length, map, filter, find, take, sum_by, eqb, nat_lt, not, Bool, if◌then◌else◌, Option, Some, None, option_map, All, IfSome}
 use Rattle.std.specs.List.{list_any}
 use Rattle.std.specs.Option.{option_or, option_to_list}
 use Rattle.io_caps.specs.declared.limits.TheConstants.{PLACES}
 use Rattle.map_entry.specs.Action.{OutputChangeParts}
 use Rattle.map_entry.specs.Setup.{SetupParts, IsSetup}
 use Rattle.map_entry.specs.declared.entry.Entry.{Entry}
+use Rattle.map_entry.specs.Entry.{due}
+use Rattle.tai_time.specs.Time.{nanos_limit}
 use Rattle.plain_book.specs.declared.calls.JournalCall.{JournalCall}
 use Rattle.plain_book.specs.declared.replies.Activation.{Activation}
 use Rattle.plain_book.specs.declared.replies.PendingItem.{PendingItem}
@@ -27,19 +29,24 @@ use Rattle.plain_book.specs.Full.{full_from, places_each, places_used}
 use Rattle.plain_book.specs.Book.{first_some, empty_by, unknown_by, bad_channel_by, bad_row_at, time_by, reply_of, call_of}
 use Rattle.plain_book.specs.Legal.{IsLegalJournal}
 use Rattle.plain_book.specs.Rows.{AreRows, AreTimely, SelectsAlike}
+use Rattle.plain_book.specs.Time.{start}
 
 -- ---- what is answered
 
--- The reply is the book's at the journal before and the stamp's claims; the stamp counts that journal's calls; and the journal
--- after it has the accepted call behind it, where one was accepted. No call of the journal was accepted at more claims.
-pub record IsAsked (s : SetupParts) (before after : List JournalCall) (client : ℕ) (request : Request) (reply : Reply) (stamp : Stamp) : Type 0 where
+-- The reply is the book's at the journal before and the stamp's claims; the stamp counts that
+-- journal's calls; and the journal after it has the accepted call behind it, where one was
+-- accepted. No call of the journal was accepted at more claims.
+pub record IsAsked (s : SetupParts) (before after : List JournalCall) (client : ℕ)
+    (request : Request) (reply : Reply) (stamp : Stamp) : Type 0 where
   pub calls : stamp.calls ≡ length before
   pub reply_is : reply ≡ reply_of s before stamp.claims request
-  pub journal : after ≡ before ++ option_to_list (call_of s before client stamp.claims request reply)
+  pub journal :
+      after ≡ before ++ option_to_list (call_of s before client stamp.claims request reply)
   pub legal : IsLegalJournal s stamp.claims before
 
 -- the same at a number of claims, without what is said of the stamp and the journal before
-pub record IsAnswer (s : SetupParts) (claims : ℕ) (before after : List JournalCall) (client : ℕ) (request : Request) (reply : Reply) : Type 0 where
+pub record IsAnswer (s : SetupParts) (claims : ℕ) (before after : List JournalCall) (client : ℕ)
+    (request : Request) (reply : Reply) : Type 0 where
   pub reply_is : reply ≡ reply_of s before claims request
   pub journal : after ≡ before ++ option_to_list (call_of s before client claims request reply)
 
@@ -55,9 +62,10 @@ desk_parts setup claims journal = record { setup = setup; claims = claims; journ
 
 -- ---- what is kept
 
--- what contracts see of what a book keeps beside its entries: the claims from which on these select as the journal's; those up to
--- which it has looked at what is pending; the journal; the pending activations and the one that counted last, both at those
--- claims; the next number of an activation; and the places used
+-- what contracts see of what a book keeps beside its entries: the claims from which on these select
+-- as the journal's; those up to which it has looked at what is pending; the journal; the pending
+-- activations and the one that counted last, both at those claims; the next number of an
+-- activation; and the places used
 pub record KeptParts : Type 0 where
   pub from : ℕ
   pub seen : ℕ
@@ -80,13 +88,15 @@ parts kept =
       used = kept.used;
     }
 
--- so many places are kept for what may be deleted: one for each output that a pending activation names
+-- so many places are kept for what may be deleted: one for each output that a pending activation
+-- names
 abbrev pub places_kept : List PendingItem → ℕ
 places_kept items = sum_by (λ item. length item.action) items
 
--- What a book keeps over its entries, after so many claims. They select as the journal's do from some claims on; and each entry has
--- a place, and so has each entry of a deletion that may come.
-pub record IsDesk (s : SetupParts) (claims : ℕ) (entries : List Entry) (p : KeptParts) : Type 0 where
+-- What a book keeps over its entries, after so many claims. They select as the journal's do from
+-- some claims on; and each entry has a place, and so has each entry of a deletion that may come.
+pub record IsDesk (s : SetupParts) (claims : ℕ) (entries : List Entry)
+    (p : KeptParts) : Type 0 where
   pub setup : IsSetup s
   pub legal : IsLegalJournal s p.seen p.journal
   pub since : p.from ≤ p.seen
@@ -111,7 +121,8 @@ is_above key item = nat_lt key (item_due item)
 abbrev pub shown_item : PendingItem → Activation
 shown_item item = activation item.id item.when item.tick
 
--- it, or the one that was chosen of those behind it: that one, unless it counts from an earlier tick
+-- it, or the one that was chosen of those behind it: that one, unless it counts from an earlier
+-- tick
 abbrev pub later_item : PendingItem → Option Activation → Activation
 later_item item None = shown_item item
 later_item item (Some next) = if nat_lt next.tick item.tick then shown_item item else next
@@ -121,8 +132,8 @@ abbrev pub latest_item : List PendingItem → Option Activation
 latest_item [] = None
 latest_item (item ∷ items) = Some (later_item item (latest_item items))
 
--- after so many claims: the activations that count from a key or below are no longer pending, and of them the one that counts last
--- is shown
+-- after so many claims: the activations that count from a key or below are no longer pending, and
+-- of them the one that counts last is shown
 abbrev pub looked_at : KeptParts → ℕ → ℕ → KeptParts
 looked_at p key claims =
     record {
@@ -194,24 +205,31 @@ settled p done =
 
 -- ---- what is decided
 
--- what a publisher asks of new entries of so many claims, behind those that it has
-pub record ArePublishable (s : SetupParts) (claims : ℕ) (entries new : List Entry) : Type 0 where
+-- What new entries of so many claims are, behind those of a table: there are places for them; they
+-- say that they were published at these claims; their outputs are there, and their rows pass the
+-- check; none counts from a tick that has begun; and each counts from one that begins before the
+-- end of time.
+pub record AreNewEntries (s : SetupParts) (claims : ℕ) (entries new : List Entry) : Type 0 where
   pub room : length entries + length new ≤ PLACES
   pub ats : All (λ e. e.at ≡ claims) new
   pub rows : AreRows s new
   pub timely : AreTimely s new
+  pub starts : All (λ e. start s (due e) < nanos_limit) new
 
--- What an accepted request makes: entries that are those of its call, behind the table's and behind the whole journal's, at these
--- claims; and with all of it done the book is as before.
-pub record IsMade (s : SetupParts) (claims : ℕ) (entries : List Entry) (p : KeptParts) (m : Made) : Type 0 where
+-- What an accepted request makes: entries that are those of its call, behind the table's and behind
+-- the whole journal's, at these claims; and with all of it done the book is as before.
+pub record IsMade (s : SetupParts) (claims : ℕ) (entries : List Entry) (p : KeptParts)
+    (m : Made) : Type 0 where
   pub at_is : m.call.at ≡ claims
   pub entries_are : m.entries ≡ call_entries s p.journal entries m.call
   pub whole_are : m.entries ≡ call_entries s p.journal (entries_of s p.journal) m.call
-  pub fits : ArePublishable s claims entries m.entries
+  pub fits : AreNewEntries s claims entries m.entries
   pub after : IsDesk s claims (entries ++ m.entries) (settled (staged p m.call m.item) m.settling)
 
--- What is decided: the reply is the book's, and what is to be done is of the call that the reply accepts, where it accepts one.
-pub record IsDecided (s : SetupParts) (claims : ℕ) (entries : List Entry) (p : KeptParts) (client : ℕ) (request : Request) (d : Decided) : Type 0 where
+-- What is decided: the reply is the book's, and what is to be done is of the call that the reply
+-- accepts, where it accepts one.
+pub record IsDecided (s : SetupParts) (claims : ℕ) (entries : List Entry) (p : KeptParts)
+    (client : ℕ) (request : Request) (d : Decided) : Type 0 where
   pub reply_is : d.reply ≡ reply_of s p.journal claims request
   pub call_is : option_map (λ m. m.call) d.made ≡ call_of s p.journal client claims request d.reply
   pub made_is : IfSome d.made (IsMade s claims entries p)
@@ -227,7 +245,8 @@ abbrev pub held_at : List PendingItem → OutputChangeParts → Option Refusal
 held_at pending c = if list_any (holds_item c.output) pending then Some (Locked c.output) else None
 
 -- the first refusal that a book finds
-unfoldable pub refusal_from : SetupParts → List Entry → List PendingItem → ℕ → ℕ → When → List OutputChangeParts → Option Refusal
+unfoldable pub refusal_from : SetupParts → List Entry → List PendingItem → ℕ → ℕ → When
+    → List OutputChangeParts → Option Refusal
 refusal_from s entries pending used claims when action =
     option_or (empty_by action)
     (option_or (unknown_by s.device action)
@@ -248,12 +267,15 @@ item_at id pending = find (λ item. eqb item.id id) pending
 
 -- what is pending of an accepted activation: it is, where it counts from above a key
 abbrev pub item_above : ℕ → ℕ → When → ℕ → List OutputChangeParts → Option PendingItem
-item_above key id when tick action = if nat_lt key tick then Some (pending_item id when tick action) else None
+item_above key id when tick action =
+    if nat_lt key tick then Some (pending_item id when tick action) else None
 
--- the activation that counts last behind an accepted one: that one, where it counts from the key or below
+-- the activation that counts last behind an accepted one: that one, where it counts from the key or
+-- below
 abbrev pub last_behind : ℕ → ℕ → When → ℕ → Option Activation → Option Activation
 last_behind key id when tick last = if nat_lt key tick then last else Some (activation id when tick)
 
 -- the tick of a call that is taken back, and the entries that keep its outputs' rows
 abbrev pub taken_by : SetupParts → List Entry → ℕ → JournalCall → ℕ × List Entry
-taken_by s entries claims call = (call.tick, map (kept_entry s entries claims call.tick) (action_of call.request))
+taken_by s entries claims call =
+    (call.tick, map (kept_entry s entries claims call.tick) (action_of call.request))

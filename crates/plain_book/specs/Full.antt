@@ -1,5 +1,5 @@
--- The places of one table, which each map entry takes one of. (This project's own. A book over one table refuses what finds no
--- place; it is the last refusal, and stands apart here.)
+-- The places of one table, which each map entry takes one of. (This project's own. A book over one
+-- table refuses what finds no place; it is the last refusal, and stands apart here.)
 use Rattle.std.specs.Prelude.{ℕ, ◌+◌, ◌*◌, nat_lt, List, length, Option, Some, None, if◌then◌else◌, sum_by}
 use Rattle.io_caps.specs.declared.limits.TheConstants.{PLACES}
 use Rattle.map_entry.specs.Action.{OutputChangeParts}
@@ -12,7 +12,8 @@ use Rattle.plain_book.specs.declared.requests.When.TheVariants.{Now, At, After}
 use Rattle.plain_book.specs.declared.requests.Request.{Request}
 use Rattle.plain_book.specs.declared.requests.Request.TheVariants.{Activate, Delete, Active, Pending}
 
--- the places of each output that an activation names: one at once, and two of a scheduled one, since it may be deleted
+-- the places of each output that an activation names: one at once, and two of a scheduled one,
+-- since it may be deleted
 abbrev pub places_each : When → ℕ
 places_each Now = 1
 places_each (At time) = 2

@@ -1,8 +1,11 @@
 -- Histories: which are whole, and in which order their replies stand. (This project's own.)
-use Rattle.std.specs.Prelude.{◌≡◌, ℕ, ◌≤◌, ◌&&◌, ◌||◌, eqb, nat_lt, Bool, false, List, [], ◌∷◌, length, map, filter, fold, All, AllPairs, if◌then◌else◌}
-use Rattle.std.specs.List.{AllByRecursion, range_with_len}
+use Rattle.std.specs.Prelude.{◌≡◌, ℕ, ◌+◌, ◌≤◌, ◌&&◌, ◌||◌, eqb, nat_lt, Bool, false, List, [], ◌∷◌, ◌++◌, length, map, filter, fold, slice_get, All, AllPairs, if◌then◌else◌}
+use Rattle.std.specs.List.{AllByRecursion, flat_map, range_with_len}
+use Rattle.std.specs.Option.{option_to_list}
 use Rattle.plain_book.specs.declared.calls.JournalCall.{JournalCall}
 use Rattle.plain_book.specs.declared.history.ClaimItem.{ClaimItem}
+use Rattle.plain_book.specs.declared.history.HistoryItem.{HistoryItem}
+use Rattle.plain_book.specs.declared.history.HistoryItem.TheVariants.{Call, Reply, Claim}
 use Rattle.plain_book.specs.declared.history.ReplyItem.{ReplyItem}
 use Rattle.plain_book.specs.declared.history.Said.{Said}
 use Rattle.plain_book.specs.declared.history.History.{History}
@@ -36,7 +39,9 @@ replies_to client replies = filter (λ r. eqb r.client client) replies
 abbrev pub comes_before : ReplyItem → ReplyItem → Bool
 comes_before a b =
     nat_lt a.stamp.claims b.stamp.claims
-    || (eqb a.stamp.claims b.stamp.claims && (nat_lt a.stamp.calls b.stamp.calls || (eqb a.stamp.calls b.stamp.calls && nat_lt a.client b.client)))
+    || (eqb a.stamp.claims b.stamp.claims
+    && (nat_lt a.stamp.calls b.stamp.calls
+    || (eqb a.stamp.calls b.stamp.calls && nat_lt a.client b.client)))
 
 -- a reply may stand before another: that one isn't to come before it
 abbrev pub IsNoLater : ReplyItem → ReplyItem → Type 0
@@ -58,7 +63,8 @@ in_order replies = fold put [] replies
 
 -- a reply of the same client as an earlier one has no earlier place
 abbrev pub IsNoEarlier : ReplyItem → ReplyItem → Type 0
-IsNoEarlier r x = x.client ≡ r.client → (x.stamp.calls ≤ r.stamp.calls) × (x.stamp.claims ≤ r.stamp.claims)
+IsNoEarlier r x =
+    x.client ≡ r.client → (x.stamp.calls ≤ r.stamp.calls) × (x.stamp.claims ≤ r.stamp.claims)
 
 -- neither part of a client's stamps ever falls
 abbrev pub StampsRise : List ReplyItem → Type 0
@@ -70,9 +76,25 @@ pub record IsOrderOf (xs ys : List ReplyItem) : Type 0 where
   pub ordered : AreInOrder ys
   pub own : (client : ℕ) → replies_to client ys ≡ replies_to client xs
 
+-- ---- the records of a history
+
+-- the records at a number of claims: the calls accepted then, the replies, and the claim of that
+-- number
+abbrev pub records_at : History → ℕ → List HistoryItem
+records_at h claims =
+    map Call (filter (λ call. eqb call.at claims) h.journal)
+    ++ (map Reply (filter (λ r. eqb r.stamp.claims claims) h.replies)
+    ++ map Claim (option_to_list (slice_get h.claims claims)))
+
+-- The records of a history up to so many claims, in the order of a result: those at each number of
+-- claims, from 0 on.
+abbrev pub records_of : History → ℕ → List HistoryItem
+records_of h claims = flat_map (records_at h) (range_with_len 0 (claims + 1))
+
 -- ---- whole histories
 
--- A whole history: its claims are numbered from 0, its calls and replies stand in order, and none is past the last claim.
+-- A whole history: its claims are numbered from 0, its calls and replies stand in order, and none
+-- is past the last claim.
 pub record IsWhole (h : History) : Type 0 where
   pub numbered : map (λ c. c.k) h.claims ≡ range_with_len 0 (length h.claims)
   pub calls : AllPairs (λ a b. a.at ≤ b.at) h.journal

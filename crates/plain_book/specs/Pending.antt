@@ -1,5 +1,6 @@
--- What is pending, locked and active at a journal and a number of claims, over the whole list of calls. (After AMWA IS-08 v1.0:
--- `/map/activations` and `/map/active`; when an output is locked is this project's own.)
+-- What is pending, locked and active at a journal and a number of claims, over the whole list of
+-- calls. (After AMWA IS-08 v1.0: `/map/activations` and `/map/active`; when an output is locked is
+-- this project's own.)
 use Rattle.std.specs.Prelude.{ℕ, ◌+◌, ◌&&◌, eqb, not, nat_lt, Bool, List, [], ◌∷◌, Option, Some, None, if◌then◌else◌, filter, find, count_by}
 use Rattle.std.specs.List.{list_any}
 use Rattle.map_entry.specs.Setup.{SetupParts}
@@ -15,10 +16,12 @@ next_id journal = count_by (λ call. is_activation call.request) journal + 1
 abbrev pub is_deleted : List JournalCall → ℕ → Bool
 is_deleted journal id = list_any (λ call. deletes id call.request) journal
 
--- whether a call is a scheduled activation that counts from behind the beginning of the first tick that has not begun, and that
--- was not deleted
+-- whether a call is a scheduled activation that counts from behind the beginning of the first tick
+-- that has not begun, and that was not deleted
 abbrev pub is_pending : SetupParts → List JournalCall → ℕ → JournalCall → Bool
-is_pending s journal claims call = is_scheduled call.request && (nat_lt (begin s claims) (call_due call) && not (is_deleted journal call.id))
+is_pending s journal claims call =
+    is_scheduled call.request
+    && (nat_lt (begin s claims) (call_due call) && not (is_deleted journal call.id))
 
 -- the pending activations, in the order of their ids
 abbrev pub pending_of : SetupParts → List JournalCall → ℕ → List JournalCall
@@ -30,17 +33,22 @@ pending_call s journal claims id = find (λ call. eqb call.id id) (pending_of s 
 
 -- whether a pending activation names the output
 abbrev pub is_locked : SetupParts → List JournalCall → ℕ → ℕ → Bool
-is_locked s journal claims output = list_any (λ call. names_output output call.request) (pending_of s journal claims)
+is_locked s journal claims output =
+    list_any (λ call. names_output output call.request) (pending_of s journal claims)
 
--- whether a call is an activation that counts from this key or an earlier one, and that was not deleted
+-- whether a call is an activation that counts from this key or an earlier one, and that was not
+-- deleted
 abbrev pub is_active_at : ℕ → List JournalCall → JournalCall → Bool
-is_active_at key journal call = is_activation call.request && (not (nat_lt key (call_due call)) && not (is_deleted journal call.id))
+is_active_at key journal call =
+    is_activation call.request
+    && (not (nat_lt key (call_due call)) && not (is_deleted journal call.id))
 
 -- whether a call is an activation that counts already, and that was not deleted
 abbrev pub is_active : SetupParts → List JournalCall → ℕ → JournalCall → Bool
 is_active s journal claims call = is_active_at (begin s claims) journal call
 
--- a call, or the one that was chosen of those behind it: that one, unless it counts from an earlier key
+-- a call, or the one that was chosen of those behind it: that one, unless it counts from an earlier
+-- key
 abbrev pub later : JournalCall → Option JournalCall → JournalCall
 later call None = call
 later call (Some next) = if nat_lt (call_due next) (call_due call) then call else next

@@ -6,10 +6,12 @@ use Rattle.map_entry.specs.Setup.{SetupParts}
 use Rattle.map_entry.specs.declared.entry.Entry.{Entry}
 use Rattle.plain_book.specs.Rows.{AreRows, AreTimely}
 
--- whether one of these later entries is of the same output, and counts from where the entry does or before, or from this key or
--- before: then the entry is not selected from the key on
+-- whether one of these later entries is of the same output, and counts from where the entry does or
+-- before, or from this key or before: then the entry is not selected from the key on
 abbrev pub is_over : ℕ → Entry → List Entry → Bool
-is_over key entry later = list_any (λ next. eqb next.output entry.output && not (nat_lt (max (due entry) key) (due next))) later
+is_over key entry later =
+    list_any (λ next. eqb next.output entry.output && not (nat_lt (max (due entry) key) (due next)))
+    later
 
 -- whether the first entry is over by those behind it
 abbrev pub is_head_over : ℕ → List Entry → Bool

@@ -160,7 +160,8 @@ fn accept(
     requires asks { request.now ≡ Activate when.now action.now }
     requires desk { IsDesk setup.now moments.claims entries.now (parts kept.now) }
     requires looked { kept.now.seen ≡ moments.claims }
-    requires free { refusal_of setup.now kept.now.journal moments.claims when.now action.now ≡ None }
+    requires free { refusal_of setup.now kept.now.journal moments.claims when.now action.now
+        ≡ None }
     requires open { IsOpen setup.now action.now }
     requires first { moments.first ≡ begin setup.now moments.claims }
     requires lands { moments.tick ≡ land setup.now moments.claims when.now }
@@ -375,7 +376,7 @@ pub fn decide(
             Ok(Decided { reply, made })
         }
         Request::Pending => {
-            let reply = show_pending(alloc, setup, entries, kept, claims)?;
+            let reply = show_pending(alloc, kept)?;
             let made = None;
             Ok(Decided { reply, made })
         }

@@ -32,8 +32,8 @@ pub trait Desk {
     /// That it may be asked for a client.
     ghost ready: { Self → ℕ → Type 0 };
 
-    /// The name of the book that it was lent, where it was lent one.
-    ghost lent: { Self → ℕ };
+    /// The names of the book and of the client's pass that it was lent, where it was lent them.
+    ghost lent: { Self → ℕ × ℕ };
 
     /// What an ask keeps of what it was lent.
     ghost keeps: { Self → Self → Type 0 };
@@ -72,14 +72,14 @@ impl Model for PlainDesk {
     ghost use Rattle.std.specs.Prelude.{◌<◌, ◌≡◌};
     ghost use Rattle.map_entry.specs.declared.claims.TheConstants.{CLAIMS_LIMIT};
     ghost use Rattle.plain_book.specs.Desk.{DeskParts, desk_parts, IsDesk, parts};
+    ghost use Rattle.plain_book.specs.Journal.{entries_of};
 
     ghost Value = { DeskParts };
 
     ghost view = { λ d. desk_parts d.setup d.claims d.kept.journal };
 
-    ghost use Rattle.plain_book.specs.Journal.{entries_of};
-
-    ghost invariant = { λ d. (d.claims < CLAIMS_LIMIT) × IsDesk d.setup d.claims d.lists.live.items (parts d.kept)
+    ghost invariant = { λ d. (d.claims < CLAIMS_LIMIT)
+        × IsDesk d.setup d.claims d.lists.live.items (parts d.kept)
         × (d.lists.all ≡ entries_of d.setup d.kept.journal) };
 }
 
@@ -129,6 +129,15 @@ impl PlainDesk {
         self.claims += 1;
     }
 
+    /// Makes claims until there are so many.
+    pub fn raise_to(&mut self, claims: u64)
+        requires more { self.old.claims ≤ claims }
+        requires few { claims < CLAIMS_LIMIT }
+        ensures { self.new ≡ desk_parts self.old.setup claims self.old.journal }
+    {
+        self.claims = claims;
+    }
+
     /// How many claims were made.
     pub fn claims(&self) -> u64
         ensures value { result ≡ self.now.claims }
@@ -153,7 +162,7 @@ impl PlainDesk {
             result.now }
         ensures fits { IsRowOf self.now.setup.device output result.now }
     {
-        row(&self.setup, self.lists.all.as_slice(), output, tick)
+        row(self.lists.all.as_slice(), output, tick)
     }
 }
 
@@ -280,7 +289,7 @@ impl Desk for PlainDesk {
 
     ghost ready = { λ d client. Unit {0} };
 
-    ghost lent = { λ d. 0 };
+    ghost lent = { λ d. (0, 0) };
 
     ghost keeps = { λ a b. a.claims ≡ b.claims };
 
@@ -290,7 +299,7 @@ impl Desk for PlainDesk {
         ensures claims { IfOk result (λ r. r.1.claims ≡ self.old.claims) }
         ensures err { OnErr result (self.new.journal ≡ self.old.journal) }
         ensures setup { self.new.setup ≡ self.old.setup }
-        ensures lent { ◌≡◌ {A = ℕ} 0 0 }
+        ensures lent { ◌≡◌ {A = ℕ × ℕ} (0, 0) (0, 0) }
         ensures keeps { self.old.claims ≡ self.new.claims }
     {
         let calls = self.kept.journal.len() as u64;

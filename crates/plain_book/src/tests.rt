@@ -273,10 +273,9 @@ fn ask(rt: &impl Abort, desk: &mut PlainDesk, request: &Request) -> Result<Told,
 }
 
 fn raise(desk: &mut PlainDesk, claims: u64) {
-    for _ in 0..claims {
-        if desk.claims() + 1 < CLAIMS_LIMIT {
-            desk.raise();
-        }
+    let all = desk.claims().saturating_add(claims);
+    if all < CLAIMS_LIMIT {
+        desk.raise_to(all);
     }
 }
 
@@ -616,6 +615,33 @@ fn end_of_time(rt: HostRuntime) -> Result<(), Fail> {
     run(&rt, rt.alloc(), base, &steps)
 }
 
+/// As many claims as there may be.
+#[test]
+fn most_claims(rt: HostRuntime) -> Result<(), Fail> {
+    let tick = 549_755_813_888;
+    let steps = [
+        (
+            CLAIMS_LIMIT - 1,
+            now(one(0, 0, A0)),
+            Told::Activated(1, tick),
+        ),
+        (0, at(nanos(0), one(1, 0, A1)), Told::Scheduled(2, tick)),
+        (
+            0,
+            after(nanos(1), one(1, 1, A0)),
+            Told::Scheduled(3, tick + 1),
+        ),
+        (0, Asked::Pending, Told::Pending(Some(3), 1)),
+        (0, Asked::Delete(3), Told::Deleted(3)),
+        (
+            0,
+            Asked::Active,
+            Told::Active(Some(2), [[A0, OFF], [A1, OFF]]),
+        ),
+    ];
+    run(&rt, rt.alloc(), 0, &steps)
+}
+
 fn kept(alloc: Global) -> Kept {
     Kept {
         from: 0,
@@ -690,7 +716,8 @@ fn sent<T: Send>(value: T) -> T {
     value
 }
 
-/// As many activations at once on both outputs as there are places.
+/// As many activations at once on both outputs as there are places; a time past the end of time is
+/// told before that.
 #[test]
 fn full_table(rt: HostRuntime) -> Result<(), Fail> {
     let alloc = rt.alloc();
@@ -700,6 +727,8 @@ fn full_table(rt: HostRuntime) -> Result<(), Fail> {
         assert_eq!(rt; ask(&rt, &mut desk, &request)?, Told::Activated(id, 0));
     }
     assert_eq!(rt; ask(&rt, &mut desk, &request)?, refused(Refusal::Full));
+    let late = self::request(alloc, &at(LAST, across(A0, A1)))?;
+    assert_eq!(rt; ask(&rt, &mut desk, &late)?, refused(Refusal::Time));
     assert_eq!(rt;
         ask(&rt, &mut desk, &Request::Active)?,
         Told::Active(Some(255), [[A0, OFF], [A1, OFF]])

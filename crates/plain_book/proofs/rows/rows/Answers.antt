@@ -12,7 +12,7 @@ loop-output-preserved c =
     let s = c.args.setup.now in
     let o = c.loop-output.output in
     let f = λ (k : ℕ). row_from s c.args.entries.now k c.args.claims in
-    let value = ap (λ (r : Option (List Cell)). unwrap_or r []) c.row.ensures.value in
+    let value = ap (λ (r : Option (List Cell)). unwrap_or r []) c.row.ensures in
     let here : f o ≡ c.row.result.now = ap (λ (t : ℕ). unwrap_or (selected c.args.entries.now o t) []) (sym c.requires.first) ∙ value in
     c.in_ok-push.ensures.ok ∙ ap (λ (z : List (List Cell)). z ++ c.in_ok-copy.field-0 ∷ []) c.loop-output.invariant
     ∙ ap (λ (r : List Cell). map f (range_with_len 0 o) ++ r ∷ []) (c.in_ok-copy.ensures ∙ sym here) ∙ sym (map_range_more f o)

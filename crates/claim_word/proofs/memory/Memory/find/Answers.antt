@@ -9,7 +9,7 @@ use Rattle.claim_rule.specs.declared.view.View.{View}
 use Rattle.claim_rule.specs.Claims.{outputs_of, output_of, tick_of}
 use Rattle.claim_rule.proofs.Fitting.{channels_few}
 use Rattle.claim_word.specs.declared.memory.Head.{Head}
-use Rattle.claim_word.specs.Claims.{head_of, read_on, IsMemory}
+use Rattle.claim_word.specs.Claims.{head_of, number_of, read_on, IsMemory}
 use Rattle.claim_word.proofs.Claiming.{covered, memory_found, output_there}
 use Rattle.claim_word.proofs.Reading.{nobody, read_further}
 use Rattle.claim_word.proofs.Remembering.{rows_there, ruling_none, ruling_output, ruling_row}
@@ -22,7 +22,9 @@ whole c = c.as_slice.ensures.value ∙ c.read_heads.ensures.heads.0
 
 -- the claim's output is there, and its row
 output : (c : In-Some) → c.args.claim.now.output < outputs_of c.args.seat.now.me.0.plan
-output c = let l = c.requires.last in let o = l.2.output in let t = output_there c.args.seat.now.me.0.plan l.0 c.requires.table.1 in omega arith
+output c =
+    let o = c.requires.last.claim.output in
+    let t = output_there c.args.seat.now.me.0.plan (number_of c.args.seat.now.me.0.plan c.args.claim.now) c.requires.table.1 in omega arith
 
 rows : (c : In-Some) → (c.args.claim.now.output < length c.args.self.now.rows.items)
     × (length (get_or c.args.self.now.rows.items c.args.claim.now.output []) ≡ channels_of_output c.args.seat.now.me.0.plan.setup.device c.args.claim.now.output)
@@ -80,7 +82,8 @@ pub returns-in-Some-clause-memory : goal.returns-in-Some-clause-memory
 returns-in-Some-clause-memory c =
     let at = (goal.at.returns-in-Some-clause-memory c).In-Some in let v : View = c.args.seat.now.me.0 in let memory = c.requires.memory in
     let a = c.read_heads.ensures.seat.2 in let b = c.read_into.ensures.seat.2 in
-    let number : ℕ = c.requires.last.0 in let claim = c.requires.last.2 in
+    let claim = c.requires.last.claim in
+    let number : ℕ = number_of v.plan c.args.claim.now in
     let n : ℕ = length (get_or c.args.self.now.rows.items c.output-in-Some.result []) in let k : ℕ = c.entries.result - vec_len c.args.self.now.heads in
     let d : Entry = nobody in let row : List Cell = (get_or v.entries c.in-Some.place d).row in
     let now : c.read_into.new.seat.me.0 ≡ read_on v (k + n) = ap (λ m. m.0) b ∙ (ap (λ m. read_on m.0 n) a ∙ read_further v k n) in
@@ -91,7 +94,7 @@ returns-in-Some-clause-memory c =
     let o : c.output-in-Some.result ≡ output_of v.plan number = c.output-in-Some.ensures ∙ claim.output in
     subst (λ (w : View). IsMemory w (record { heads = c.read_heads.new.heads; rows = c.read_into.new.rows; ready = true })) (sym now)
     (memory_found v c.args.self.now (record { heads = c.read_heads.new.heads; rows = c.read_into.new.rows; ready = true }) number (k + n) row c.requires.table.1 memory c.if-self.false
-    c.requires.last.1 claim.early
+    c.requires.last.draw claim.early
     (record {
       room = let r = memory.room in let h = c.read_heads.ensures.heads.1 in omega arith;
       heads = c.read_heads.ensures.heads.0;
@@ -113,9 +116,10 @@ returns-in-Some-clause-row c =
 
 pub returns-in_default-clause-row : goal.returns-in_default-clause-row
 returns-in_default-clause-row c =
-    let v : View = c.args.seat.now.me.0 in let claim = c.requires.last.2 in
+    let v : View = c.args.seat.now.me.0 in let claim = c.requires.last.claim in
+    let number : ℕ = number_of v.plan c.args.claim.now in
     let same : c.as_slice.result.now ≡ map head_of v.entries = c.as_slice.ensures.value ∙ c.read_heads.ensures.heads.0 in
     let missed = ruling_none v.entries c.as_slice.result.now c.output.result c.tick.result same c.in_default.ensures.none in
-    let there : selected v.entries (output_of v.plan c.requires.last.0) (tick_of v.plan c.requires.last.0) ≡ None =
+    let there : selected v.entries (output_of v.plan number) (tick_of v.plan number) ≡ None =
     (λ i. selected v.entries (sym (c.output.ensures ∙ claim.output) i) (sym (c.tick.ensures ∙ claim.tick) i)) ∙ missed in
-    absurd (covered v.plan v.entries c.requires.last.0 c.requires.table.1 c.requires.covers there)
+    absurd (covered v.plan v.entries number c.requires.table.1 c.requires.covers there)

@@ -43,9 +43,9 @@ returns c =
       entries = c.into_entries.ensures ∙ (sym p.entries_are ∙ ap (λ (u : View). u.entries) view);
       claims = claims;
       ends = known;
-      numbers = numbers_once c.args.self.plan known.drawn ws c.from_vec.result claims known.once;
+      numbers = numbers_once c.args.self.plan (length (draws_in ws)) ws c.from_vec.result claims known.once;
       full = λ any.
-          over_full c.args.self.plan.packets known.drawn (draws_in ws)
+          over_full c.args.self.plan.packets (length (draws_in ws)) (draws_in ws)
           (subst (λ (l : List PassFace). list_any (λ (x : PassFace). x.ended) l ≡ true → HasOver c.args.self.plan.packets (draws_in l)) c.into_vec-2.ensures c.take_all.ensures.over any)
           known.once;
     }

@@ -3,11 +3,13 @@ use Rattle.std.specs.Prelude.{vec_capacity}
 use Rattle.map_entry.specs.declared.entry.Entry.{Entry}
 use Rattle.claim_rule.specs.declared.view.View.{View}
 use Rattle.claim_rule.specs.Claims.{outputs_of}
-use Rattle.claim_rule.specs.Views.{drew}
+use Rattle.claim_rule.specs.Views.{Begins, drew}
 use Rattle.claim_rule.proofs.Steps.{draws_keeps}
-use Rattle.claim_word.specs.Claims.{IsFrugal, IsMemory, IsWorker}
+use Rattle.claim_word.specs.declared.worker.Claim.{Claim}
+use Rattle.claim_word.specs.Faces.{PassFace}
+use Rattle.claim_word.specs.Claims.{IsFrugal, IsLast, IsMemory, IsWorker}
 use Rattle.claim_word.proofs.Bounds.{claim_tick-few}
-use Rattle.claim_word.proofs.Claiming.{claims_few, frugal_of, memory_over, memory_packet, worker_over, worker_packet}
+use Rattle.claim_word.proofs.Claiming.{claims_few, frugal_of, last_claimed, memory_over, memory_packet, worker_over, worker_packet}
 use Rattle.claim_word.proofs.worker.WorkerPass.claim.Goals as goal
 use Rattle.claim_word.proofs.worker.WorkerPass.claim.Goals.{After-fetch_add-word}
 
@@ -78,3 +80,44 @@ returns-clause-loads c =
     let told = c.fetch_add-word.ensures.2 in let v : View = c.self.inside.seat.me.0 in
     let packet : c.fetch_add-word.result % 2 ^ 32 < v.plan.packets = let n = c.if-number-self.false in let s = c.self.invariant.0.span_is.packets_is in omega arith in
     subst IsFrugal (sym (ap (λ m. m.0) told.1)) (frugal_of _ _ (memory_packet v c.self.inside.memory _ told.0 c.self.invariant.1 told.3 packet))
+
+pub returns-then-number-self-clause-late : goal.returns-then-number-self-clause-late
+returns-then-number-self-clause-late c = λ _ was.
+    let v : View = c.self.inside.seat.me.0 in let told = c.fetch_add-word.ensures.2 in
+    let number : ℕ = c.fetch_add-word.result % 2 ^ 32 in
+    let now : c.fetch_add-word.new.seat.me.0 ≡ drew v number told.0 = ap (λ m. m.0) told.1 in
+    let found : c.fetch_add-word.new.seat.me.0.entries ≡ told.0 = ap (λ (u : View). u.entries) now in
+    let same : v ≡ c.args.self.now.view = ap (λ (f : PassFace). f.view) c.self.view_is in
+    let over : v.plan.packets ≤ number = let n = c.if-number-self.true in let s = c.self.invariant.0.span_is.packets_is in omega arith in
+    record {
+      number = number;
+      late = subst (λ (u : View). u.plan.packets ≤ number) same over;
+      drawn = record {
+        was = was;
+        id = c.fetch_add-word.ensures.0 ∙ ap (λ (f : PassFace). f.id) c.self.view_is;
+        view = now ∙ (λ k. drew (same k) number (sym found k));
+        more = subst (λ (z : View × List Entry). Begins z.0.entries z.1) (λ k. (same k, sym found k)) told.3;
+      };
+    }
+
+pub returns-clause-last : goal.returns-clause-last
+returns-clause-last c =
+    let v : View = c.self.inside.seat.me.0 in let told = c.fetch_add-word.ensures.2 in let span = c.self.invariant.0.span_is in
+    let number : ℕ = c.fetch_add-word.result % 2 ^ 32 in
+    let k : ℕ = c.self.inside.span.from + number in
+    let claim : Claim = record {
+      k = k;
+      tick = c.self.inside.span.base + k / c.self.inside.span.outputs;
+      output = k % c.self.inside.span.outputs;
+      entries = c.fetch_add-word.result / 2 ^ 32;
+    } in
+    let packet : number < v.plan.packets = let n = c.if-number-self.false in let s = span.packets_is in omega arith in
+    subst (λ (u : View). IsLast u claim) (sym (ap (λ m. m.0) told.1))
+    (last_claimed v number told.0 claim
+    (record {
+      early = packet;
+      k = (λ i. span.from_is i + number);
+      tick = (λ i. span.base_is i + (span.from_is i + number) / span.outputs_is i);
+      output = (λ i. (span.from_is i + number) % span.outputs_is i);
+      entries = sym told.4.count;
+    }))

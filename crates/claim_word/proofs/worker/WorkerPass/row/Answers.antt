@@ -1,14 +1,17 @@
 use Rattle.std.proofs.Common.{ℕ, ◌≡◌, ◌+◌, ◌<◌, ◌≤◌, List, [], length, get_or, refl, sym, ap, ◌∙◌, subst, arith}
 use Rattle.std.specs.Prelude.{Some}
-use Rattle.std.specs.List.{AllZip}
+use Rattle.std.specs.List.{All, AllZip}
 use Rattle.std.proofs.lemmas.List.{get_or_default}
+use Rattle.std.proofs.lemmas.List.Elements.{All-weaker}
 use Rattle.map_entry.specs.declared.cell.Cell.{Cell}
-use Rattle.map_entry.specs.Entry.{selected}
-use Rattle.map_entry.specs.Row.{channels_of_output}
+use Rattle.map_entry.specs.declared.entry.Entry.{Entry}
+use Rattle.map_entry.specs.Entry.{selected, IsEntryOk}
+use Rattle.map_entry.specs.Row.{channels_of_output, IsRowOf}
+use Rattle.map_entry.proofs.Entries.{selected_row}
 use Rattle.map_entry.specs.Setup.{HasCells}
 use Rattle.claim_rule.specs.declared.view.View.{View}
-use Rattle.claim_rule.specs.Claims.{outputs_of}
-use Rattle.claim_word.specs.Claims.{IsFrugal, IsLast, read_on}
+use Rattle.claim_rule.specs.Claims.{outputs_of, IsFit}
+use Rattle.claim_word.specs.Claims.{number_of, IsFrugal, IsLast, read_on}
 use Rattle.claim_word.specs.Faces.{PassFace}
 use Rattle.claim_word.proofs.Claiming.{frugal_of, output_there}
 use Rattle.claim_word.proofs.Remembering.{rows_there}
@@ -20,8 +23,9 @@ rows : (c : After-find) → (c.args.claim.now.output < length c.find.new.self.ro
     × (length (get_or c.find.new.self.rows.items c.args.claim.now.output []) ≡ channels_of_output c.self.inside.seat.me.0.plan.setup.device c.args.claim.now.output)
 rows c =
     let v : View = c.self.inside.seat.me.0 in let p = c.self.invariant.0 in
-    let last = subst (λ (f : PassFace). IsLast f c.args.claim.now) (sym c.self.view_is) c.requires.last in
-    let there : c.args.claim.now.output < outputs_of v.plan = let o = last.2.output in let t = output_there v.plan last.0 p.sound in omega arith in
+    let last = subst (λ (f : PassFace). IsLast f.view c.args.claim.now) (sym c.self.view_is) c.requires.last in
+    let there : c.args.claim.now.output < outputs_of v.plan =
+    let o = last.claim.output in let t = output_there v.plan (number_of v.plan c.args.claim.now) p.sound in omega arith in
     let now : c.find.new.seat.me.0 ≡ read_on v c.find.ensures.view.0 = ap (λ m. m.0) c.find.ensures.view.1 in
     rows_there v.plan.setup.device c.find.new.self.rows.items c.args.claim.now.output
     (subst (λ (w : View). AllZip HasCells w.plan.setup.device.outputs c.find.new.self.rows.items) now c.find.ensures.memory.rows) there
@@ -39,7 +43,11 @@ returns c =
     c.index.ensures ∙ get_or_default c.find.new.self.rows.items o c.index.result.now [] (rows at).0 in
     let was : PassFace = record { id = c.self.inside.seat.table_id; view = v; ended = c.self.inside.ended } in
     let is : PassFace = record { id = c.find.new.seat.table_id; view = c.find.new.seat.me.0; ended = c.self.inside.ended } in
-    let pass : is ≡ record was { view = read_on v n } = (λ k. record { id = c.find.ensures.seat.0 k; view = now k; ended = c.self.inside.ended }) in (
+    let pass : is ≡ record was { view = read_on v n } = (λ k. record { id = c.find.ensures.seat.0 k; view = now k; ended = c.self.inside.ended }) in
+    let chosen : selected c.args.self.now.view.entries o c.args.claim.now.tick ≡ Some c.index.result.now =
+    (λ k. selected (sym same k).entries o c.args.claim.now.tick) ∙ (c.find.ensures.row ∙ ap Some (sym row)) in
+    let oks : All (IsEntryOk v.plan.setup.device) v.entries =
+    All-weaker (IsFit v.plan) (IsEntryOk v.plan.setup.device) (λ (e : Entry) (f : IsFit v.plan e). f.ok) v.entries c.self.invariant.0.fits in (
       (
         refl,
         (λ _. tt),
@@ -53,7 +61,8 @@ returns c =
       ),
       record {
         after = tt;
-        row = (λ k. selected (sym same k).entries o c.args.claim.now.tick) ∙ (c.find.ensures.row ∙ ap Some (sym row));
-        long = ap length row ∙ ((rows at).1 ∙ ap (λ (u : View). channels_of_output u.plan.setup.device o) same);
+        row = chosen;
+        fits = subst (λ (u : View). IsRowOf u.plan.setup.device o c.index.result.now) same
+            (selected_row v.plan.setup.device v.entries o c.args.claim.now.tick c.index.result.now oks (c.find.ensures.row ∙ ap Some (sym row)));
       },
     )
