@@ -89,7 +89,7 @@ below_is upto n p tick c f lt = rw (lt-ltb f upto lt) refl
 above_is : (upto : ℕ) (n : Intake) (p : Piece) (tick : ℕ) (c : Held) (f : ℕ) → upto ≤ f → added_below upto n p tick c f ≡ c f
 above_is upto n p tick c f le = rw (le-ltb f upto le) refl
 
-none_of : (o : Option (List ℤ)) → is_some o ≡ false → o ≡ None
+pub none_of : (o : Option (List ℤ)) → is_some o ≡ false → o ≡ None
 none_of None h = refl
 none_of (Some x) h = absurd cc
 
@@ -124,7 +124,7 @@ keeps_at n p tick k c f here (inr le) (inr ne) =
     let more : k + 1 ≤ f = omega (arith, le, ne) in
     above_is k n p tick c f le ∙ sym (above_is (k + 1) n p tick c f more)
 
-fresh_is : (n : Intake) (p : Piece) (tick k : ℕ) (c : Held) (x : List ℤ) → c k ≡ None → covers (tick_place n tick + k) p ≡ true → x ≡ piece_frame n (tick_place n tick + k) p
+pub fresh_is : (n : Intake) (p : Piece) (tick k : ℕ) (c : Held) (x : List ℤ) → c k ≡ None → covers (tick_place n tick + k) p ≡ true → x ≡ piece_frame n (tick_place n tick + k) p
     → added n p tick c k ≡ Some x
 fresh_is n p tick k c x here cov is =
     ap (λ (o : Option (List ℤ)). option_or o (cond (covers (tick_place n tick + k) p) (Some (piece_frame n (tick_place n tick + k) p)) None)) here

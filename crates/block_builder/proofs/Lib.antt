@@ -13,5 +13,6 @@ pub mod Builders
 pub mod Intakes
 pub mod NewFrames
 pub mod Walks
+pub mod Whole
 pub mod Runs
 pub mod Yardsticks

@@ -12,6 +12,7 @@ use Rattle.std.specs.Prelude.{option_and_then, unwrap_or, min, max, ℤ, pos}
 use Rattle.std.specs.List.{find, flat_map, list_any, range_with_len}
 use Rattle.std.specs.Option.{option_map}
 use Rattle.io_caps.specs.Rate.{bytes_per_sample}
+use Rattle.io_caps.specs.declared.rate.Width.{Width}
 use Rattle.io_caps.specs.declared.device.DeviceParts.{DeviceParts}
 use Rattle.io_caps.specs.declared.port.Input.{Input}
 use Rattle.rtp_pcm.specs.Pcm.{IsSample, sample_of}
@@ -154,11 +155,15 @@ holder n pieces tick place =
     option_and_then (λ p. (if covers place p then Some p else None))
     (find (decides n tick place) pieces)
 
--- the samples of a payload in order (RFC 3551, sections 4.3 and 4.5.11, and RFC 3190, section 4)
+-- so many samples of a payload in order (RFC 3551, sections 4.3 and 4.5.11, and RFC 3190, section 4)
+abbrev pub samples_in : Width → ℕ → List ℕ → List ℤ
+samples_in width count payload =
+    let size = bytes_per_sample width in
+    map (λ i. sample_of width (take size (drop (i * size) payload))) (range_with_len 0 count)
+
+-- the samples of one frame
 abbrev pub samples_of : Intake → List ℕ → List ℤ
-samples_of n payload =
-    let size = bytes_per_sample n.width in
-    map (λ i. sample_of n.width (take size (drop (i * size) payload))) (range_with_len 0 n.channels)
+samples_of n payload = samples_in n.width n.channels payload
 
 -- the samples of a piece at a place that it covers: a sample for each channel
 abbrev pub piece_frame : Intake → ℕ → Piece → List ℤ

@@ -1,7 +1,7 @@
 -- The builder's window: slots of ticks, rising, each with what its tick holds so far. (This
 -- project's own.)
-use Rattle.std.specs.Prelude.{◌≡◌, ◌≢◌, ℕ, ◌+◌, ◌-◌, ◌^◌, ◌<◌, ◌≤◌, Bool, false, if◌then◌else◌}
-use Rattle.std.specs.Prelude.{◌&&◌, not, nat_lt, List, [], ◌∷◌, length, map, Some, None, is_some}
+use Rattle.std.specs.Prelude.{◌≡◌, ◌≢◌, ℕ, ◌+◌, ◌-◌, ◌*◌, ◌^◌, ◌<◌, ◌≤◌, Bool, false, if◌then◌else◌}
+use Rattle.std.specs.Prelude.{◌&&◌, true, drop, not, nat_lt, List, [], ◌∷◌, length, map, Some, None, is_some}
 use Rattle.std.specs.Prelude.{IfSome, ℤ, ◌⊎◌, slice_index_or}
 use Rattle.std.specs.List.{count_by, range_with_len, sum_by}
 use Rattle.std.specs.Option.{option_or}
@@ -9,7 +9,8 @@ use Rattle.io_caps.specs.declared.limits.TheConstants.{MOST_CHANNELS, MOST_FRAME
 use Rattle.io_caps.specs.declared.limits.TheConstants.{SESSION_TICKS}
 use Rattle.block_builder.specs.declared.intake.Intake.{Intake}
 use Rattle.block_builder.specs.declared.slot.Slot.{Slot}
-use Rattle.block_builder.specs.Blocks.{Piece, Held, IsBlock, covers, piece_frame, tick_place}
+use Rattle.block_builder.specs.Blocks.{Piece, Held, IsBlock, covers, frame_bytes, piece_frame}
+use Rattle.block_builder.specs.Blocks.{tick_place}
 use Rattle.block_builder.specs.Blocks.{tick_samples}
 
 -- the numbers of an intake are those of a device and a session within their limits
@@ -54,6 +55,13 @@ IsBlank n samples flags = (held : Held) → IsAbsent n held → IsShown n held s
 -- a packet covers no frame of a tick
 abbrev pub IsUntouched : Intake → Piece → ℕ → Type 0
 IsUntouched n p tick = (frame : ℕ) → frame < n.frames → covers (tick_place n tick + frame) p ≡ false
+
+-- what a packet has from the first frame of a tick on, all of whose frames it covers
+pub record IsTickPart (n : Intake) (p : Piece) (tick : ℕ) (part : List ℕ) : Type 0 where
+  pub covered : (frame : ℕ) → frame < n.frames → covers (tick_place n tick + frame) p ≡ true
+  pub after : p.first ≤ tick_place n tick
+  pub part_is : part ≡ drop ((tick_place n tick - p.first) * frame_bytes n) p.payload
+  pub there : n.frames * frame_bytes n ≤ length part
 
 -- whether a packet would be the first to hold a frame of a tick
 abbrev pub is_fresh : Intake → Piece → ℕ → Held → ℕ → Bool

@@ -1,19 +1,20 @@
 //! A tick that waits: its samples so far, and which of its frames hold any.
 
 ghost use Rattle.std.specs.Prelude.{◌≡◌, ◌≤◌, ◌<◌, ◌+◌, ◌*◌, ◌^◌, ◌++◌, List, take, drop, length};
-ghost use Rattle.std.specs.Prelude.{All, IfOk, IfSome};
+ghost use Rattle.std.specs.Prelude.{All, IfOk, IfSome, replicate, true};
+ghost use Rattle.io_caps.specs.Rate.{bytes_per_sample};
 ghost use Rattle.std.specs.List.{list_any};
 ghost use Rattle.rtp_pcm.specs.Pcm.{IsSample};
 ghost use Rattle.block_builder.specs.Blocks.{Held, IsBlock, block_by, frame_bytes, piece_at};
-ghost use Rattle.block_builder.specs.Blocks.{samples_of};
+ghost use Rattle.block_builder.specs.Blocks.{samples_in, samples_of};
 ghost use Rattle.block_builder.specs.Window.{IsAdded, IsBlank, IsFreshCount, IsIntake, IsShown};
-ghost use Rattle.block_builder.specs.Window.{IsSlot};
+ghost use Rattle.block_builder.specs.Window.{IsSlot, IsTickPart};
 ghost use Rattle.block_builder.specs.declared.intake.Intake.{Intake};
 ghost use Rattle.io_caps.specs.declared.limits.TheConstants.{SESSION_TICKS};
 
 use crate::Block;
 use crate::intake::Intake;
-use io_caps::NoMemory;
+use io_caps::{NoMemory, Width};
 use rtp_pcm::get_sample;
 use std::alloc::Global;
 
@@ -26,20 +27,16 @@ pub struct Slot {
     pub(crate) held: Vec<bool>,
 }
 
-/// Reads the samples of one frame.
-pub(crate) fn put_samples(out: &mut [i32], payload: &[u8], intake: Intake)
-    requires room { length out.old ≡ intake.channels }
+/// Reads so many samples, one behind the other.
+pub(crate) fn put_samples(out: &mut [i32], payload: &[u8], width: Width)
     requires range { All IsSample out.old }
-    requires there { frame_bytes intake ≤ length payload.now }
-    ensures value { out.new ≡ samples_of intake payload.now }
+    requires there { length out.old * bytes_per_sample width ≤ length payload.now }
+    ensures value { out.new ≡ samples_in width (length out.old) payload.now }
     ensures range { All IsSample out.new }
 {
-    let bytes = intake.width.bytes();
-    for channel in 0..out.len() {
-        out[channel] = get_sample(
-            &payload[channel * bytes..channel * bytes + bytes],
-            intake.width,
-        );
+    let bytes = width.bytes();
+    for place in 0..out.len() {
+        out[place] = get_sample(&payload[place * bytes..place * bytes + bytes], width);
     }
 }
 
@@ -56,12 +53,20 @@ pub(crate) fn put_frame(samples: &mut [i32], payload: &[u8], intake: Intake, fra
 {
     let channels = intake.channels as usize;
     let at = frame * channels;
-    put_samples(&mut samples[at..at + channels], payload, intake);
+    put_samples(&mut samples[at..at + channels], payload, intake.width);
 }
 
-/// Puts the frames of a packet into those of a tick that hold none, and answers how many. `first`
-/// is the place of the packet's first frame.
-pub(crate) fn fill(
+/// Whether a flag is set.
+fn is_any(held: &[bool]) -> bool
+    ensures { result ≡ list_any (λ flag. flag) held.now }
+{
+    held.iter().any(|flag| *flag)
+}
+
+/// Puts the frames of a packet, one by one, into those of a tick that hold none, and answers how
+/// many. Out of line, so that its loop keeps its registers.
+#[inline(never)]
+fn fill_each(
     samples: &mut [i32],
     held: &mut [bool],
     payload: &[u8],
@@ -107,11 +112,66 @@ pub(crate) fn fill(
     used
 }
 
-/// Whether a flag is set.
-fn is_any(held: &[bool]) -> bool
-    ensures { result ≡ list_any (λ flag. flag) held.now }
+/// What a payload has from the first frame of a tick on, where it covers all of them.
+fn tick_part(payload: &[u8], intake: Intake, tick: u64, first: u64) -> Option<&[u8]>
+    requires numbers { IsIntake intake }
+    requires near { tick ≤ SESSION_TICKS }
+    requires place { first < 2 ^ 32 }
+    ensures { IfSome result (λ part.
+        IsTickPart intake (piece_at intake first payload.now) tick part.now) }
 {
-    held.iter().any(|flag| *flag)
+    let start = intake.tick_place(tick);
+    let frame_len = intake.frame_len();
+    let count = (payload.len() / frame_len) as u64;
+    if start < first || first + count < start + u64::from(intake.frames) {
+        return None;
+    }
+    Some(&payload[(start - first) as usize * frame_len..])
+}
+
+/// Puts all frames of a tick that holds none.
+fn fill_whole(samples: &mut [i32], held: &mut [bool], part: &[u8], intake: Intake)
+    requires block { IsBlock intake samples.old }
+    requires there { intake.frames * frame_bytes intake ≤ length part.now }
+    ensures value { samples.new
+        ≡ samples_in intake.width (intake.frames * intake.channels) part.now }
+    ensures held { held.new ≡ replicate (length held.old) true }
+    ensures block { IsBlock intake samples.new }
+{
+    held.fill(true);
+    put_samples(samples, part, intake.width);
+}
+
+/// Puts the frames of a packet into those of a tick that hold none, and answers how many. `first`
+/// is the place of the packet's first frame.
+pub(crate) fn fill(
+    samples: &mut [i32],
+    held: &mut [bool],
+    payload: &[u8],
+    intake: Intake,
+    tick: u64,
+    first: u64,
+) -> usize
+    requires numbers { IsIntake intake }
+    requires near { tick ≤ SESSION_TICKS }
+    requires block { IsBlock intake samples.old }
+    requires flags { length held.old ≡ intake.frames }
+    requires place { first < 2 ^ 32 }
+    ensures block { IsBlock intake samples.new }
+    ensures flags { length held.new ≡ intake.frames }
+    ensures shown { IsAdded intake (piece_at intake first payload.now) tick samples.old held.old
+        samples.new held.new }
+    ensures count { IsFreshCount intake (piece_at intake first payload.now) tick samples.old
+        held.old result }
+    ensures few { result ≤ intake.frames }
+{
+    if let Some(part) = tick_part(payload, intake, tick, first) {
+        if !is_any(held) {
+            fill_whole(samples, held, part, intake);
+            return intake.frames as usize;
+        }
+    }
+    fill_each(samples, held, payload, intake, tick, first)
 }
 
 impl Slot {

@@ -56,7 +56,7 @@ impl Seen<'_> {
     {
         let mut samples = vec![in alloc; 0; intake.channels as usize]?;
         let behind = (place - self.first) * intake.frame_len();
-        put_samples(&mut samples, &self.payload[behind..], intake);
+        put_samples(&mut samples, &self.payload[behind..], intake.width);
         Ok(Block::from_vec(samples))
     }
 }

@@ -4,11 +4,11 @@ use Rattle.io_caps.specs.Rate.{bytes_per_sample}
 use Rattle.rtp_pcm.specs.Pcm.{IsSample, sample_of}
 use Rattle.block_builder.proofs.slot.put_samples.Given as goal
 
-abbrev pub invariant-loop-channel : goal.invariant-loop-channel
-invariant-loop-channel l =
-    let size = bytes_per_sample l.intake.width in
+abbrev pub invariant-loop-place : goal.invariant-loop-place
+invariant-loop-place l =
+    let size = bytes_per_sample l.width in
     record {
-      long : length l.out ≡ l.intake.channels;
-      read : (k : ℕ) → k < l.channel → get_or l.out k (pos 0) ≡ sample_of l.intake.width (take size (drop (k * size) l.payload));
+      long : length l.out ≡ length l.fn.out;
+      read : (k : ℕ) → k < l.place → get_or l.out k (pos 0) ≡ sample_of l.width (take size (drop (k * size) l.payload));
       range : All IsSample l.out;
     }

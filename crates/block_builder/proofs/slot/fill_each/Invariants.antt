@@ -1,6 +1,6 @@
 use Rattle.block_builder.specs.Blocks.{piece_at}
 use Rattle.block_builder.proofs.Filling.{IsFilled}
-use Rattle.block_builder.proofs.slot.fill.Given as goal
+use Rattle.block_builder.proofs.slot.fill_each.Given as goal
 
 abbrev pub invariant-loop-place : goal.invariant-loop-place
 invariant-loop-place l =
