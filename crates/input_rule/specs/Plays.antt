@@ -29,11 +29,14 @@ sample_place shape word = (word - (1 + shape.ticks)) % block_len shape
 abbrev pub writes : Step ℕ → Sitting → ℕ → Sitting → Type 0
 writes step m stored after = after ≡ (wrote m.0 step.word step.first, m.1)
 
--- a reader loaded the closing number, which is not below the last one that it saw, nor below the first tick
+-- a reader loaded the closing number, which is not below the last one that it saw, nor below the
+-- first tick
 abbrev pub sees : Step ℕ → Sitting → ℕ → Sitting → Type 0
-sees step m found after = (after ≡ (saw m.0 found, m.1)) × (closed_of m.0 ≤ found) × (m.0.shape.from ≤ found)
+sees step m found after =
+    (after ≡ (saw m.0 found, m.1)) × (closed_of m.0 ≤ found) × (m.0.shape.from ≤ found)
 
--- a reader loaded a presence word, which is 1 where it saw the block before, and 0 where it missed it after its tick was closed
+-- a reader loaded a presence word, which is 1 where it saw the block before, and 0 where it missed
+-- it after its tick was closed
 abbrev pub looks : Step ℕ → Sitting → ℕ → Sitting → Type 0
 looks step m found after =
     (after ≡ (looked m.0 (presence_tick m.0.shape step.word) (found == 1), m.1))
@@ -43,11 +46,14 @@ looks step m found after =
 -- a reader loaded a sample word, which is what it was before
 abbrev pub hears : Step ℕ → Sitting → ℕ → Sitting → Type 0
 hears step m found after =
-    (after ≡ (listened m.0 (sample_tick m.0.shape step.word) (sample_place m.0.shape step.word) (sample_of found), m.1))
+    (after ≡ (listened m.0 (sample_tick m.0.shape step.word) (sample_place m.0.shape step.word)
+    (sample_of found), m.1))
     × (found < 2 ^ 32)
-    × ((h : Heard) → Contains m.0.heard h → h.tick ≡ sample_tick m.0.shape step.word → h.place ≡ sample_place m.0.shape step.word → h.value ≡ sample_of found)
+    × ((h : Heard) → Contains m.0.heard h → h.tick ≡ sample_tick m.0.shape step.word
+    → h.place ≡ sample_place m.0.shape step.word → h.value ≡ sample_of found)
 
 -- the looks and samples of the feeder's view are true of the words that it knows
 abbrev pub learns : Step ℕ → Sitting → ℕ → Sitting → Type 0
 learns step m found after =
-    (after ≡ m) × All (IsLook m.0.shape m.0.words) m.0.looks × All (IsHeard m.0.shape m.0.words) m.0.heard
+    (after ≡ m) × All (IsLook m.0.shape m.0.words) m.0.looks
+    × All (IsHeard m.0.shape m.0.words) m.0.heard

@@ -1,5 +1,7 @@
 -- What the words of one input's table show: a closing number, and blocks. (This project's own.)
-use Rattle.std.specs.Prelude.{ℕ, ◌≡◌, ◌+◌, ◌-◌, ◌*◌, ◌^◌, ◌<◌, ◌≤◌, ◌==◌, ◌&&◌, nat_le, nat_lt, Bool, List, ◌∷◌, length, map, replicate, slice_index, if◌then◌else◌, Option, Some, None, ℤ, pos, ◌-ℤ◌}
+use Rattle.std.specs.Prelude.{ℕ, ◌≡◌, ◌+◌, ◌-◌, ◌*◌, ◌^◌, ◌<◌, ◌≤◌, ◌==◌, ◌&&◌, nat_le, nat_lt}
+use Rattle.std.specs.Prelude.{Bool, List, ◌∷◌, length, map, replicate, slice_index, if◌then◌else◌}
+use Rattle.std.specs.Prelude.{Option, Some, None, ℤ, pos, ◌-ℤ◌}
 use Rattle.std.specs.List.{range_with_len}
 use Rattle.input_rule.specs.declared.view.Shape.{Shape}
 
@@ -61,7 +63,9 @@ sample_at shape words tick place = sample_of (slice_index words (sample_word sha
 
 -- the table has the tick, and its block is there
 abbrev pub is_present : Shape → List ℕ → ℕ → Bool
-is_present shape words tick = nat_le shape.from tick && nat_lt tick (shape.from + shape.ticks) && slice_index words (presence shape tick) == 1
+is_present shape words tick =
+    nat_le shape.from tick && nat_lt tick (shape.from + shape.ticks)
+    && slice_index words (presence shape tick) == 1
 
 -- the samples that the words of a tick spell, frame by frame and each frame in channel order
 abbrev pub samples_at : Shape → List ℕ → ℕ → List ℤ
@@ -69,21 +73,27 @@ samples_at shape words tick = map (sample_at shape words tick) (range_with_len 0
 
 -- the block of a tick, where it is there
 abbrev pub block_at : Shape → List ℕ → ℕ → Option (List ℤ)
-block_at shape words tick = if is_present shape words tick then Some (samples_at shape words tick) else None
+block_at shape words tick =
+    if is_present shape words tick then Some (samples_at shape words tick) else None
 
 -- ---- what holds of the words, and how they change
 
--- a presence word is 0 or 1, no tick before the table is open, and each sample word spells a number of 32 bits
+-- a presence word is 0 or 1, no tick before the table is open, and each sample word spells a number
+-- of 32 bits
 pub record AreWords (shape : Shape) (words : List ℕ) : Type 0 where
   pub len : length words ≡ words_len shape
   pub begun : shape.from ≤ closing words
   pub presence : (tick : ℕ) → HasTick shape tick → slice_index words (presence shape tick) ≤ 1
   pub spelt : (place : ℕ) → shape.ticks < place → slice_index words place < 2 ^ 32
 
--- Later words: the closing number never falls, a block that is there stays as it is, and after a closing above a tick nothing
--- comes at the tick.
+-- Later words: the closing number never falls, a block that is there stays as it is, and after a
+-- closing above a tick nothing comes at the tick.
 pub record AreLater (shape : Shape) (before after : List ℕ) : Type 0 where
   pub rises : closing before ≤ closing after
-  pub stays : (tick : ℕ) → HasTick shape tick → IsPresent shape before tick → IsPresent shape after tick
-  pub same : (tick place : ℕ) → HasTick shape tick → place < block_len shape → IsPresent shape before tick → sample_at shape after tick place ≡ sample_at shape before tick place
-  pub settled : (tick : ℕ) → HasTick shape tick → tick < closing before → IsAbsent shape before tick → IsAbsent shape after tick
+  pub stays : (tick : ℕ) → HasTick shape tick → IsPresent shape before tick
+      → IsPresent shape after tick
+  pub same : (tick place : ℕ) → HasTick shape tick → place < block_len shape
+      → IsPresent shape before tick
+      → sample_at shape after tick place ≡ sample_at shape before tick place
+  pub settled : (tick : ℕ) → HasTick shape tick → tick < closing before → IsAbsent shape before tick
+      → IsAbsent shape after tick

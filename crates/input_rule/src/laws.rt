@@ -1,6 +1,9 @@
 //! Functions that carry laws: their clauses are what they are for.
 
-ghost use Rattle.input_rule.specs.Laws.{BlocksSettle, BlocksStay, GoOn, Hears, KeepsHeard, KeepsLooks, Learns, Looks, MakesReader, Sees, Starts, StartsEmpty, StoresClosing, StoresPresence, StoresSample, TakesIn};
+ghost use Rattle.input_rule.specs.Laws.{BlocksSettle, BlocksStay, GoOn, Hears, KeepsHeard};
+ghost use Rattle.input_rule.specs.Laws.{KeepsLooks, Learns, Looks, MakesReader, Sees, Starts};
+ghost use Rattle.input_rule.specs.Laws.{StartsEmpty, StoresClosing, StoresPresence, StoresSample};
+ghost use Rattle.input_rule.specs.Laws.{TakesIn};
 
 /// Later words go on to later ones, and what was seen or read stays so.
 #[tactic(auto, using(crate::proofs::Steps::words_stay))]

@@ -1,5 +1,5 @@
-//! The rule of the input table, kept between any two atomic steps: what the words of one input's table show, what each
-//! pass knows of them, and what a step tells its pass.
+//! The rule of the input table, kept between any two atomic steps: what the words of one input's
+//! table show, what each pass knows of them, and what a step tells its pass.
 #![tactic(auto)]
 
 mod law;

@@ -2,8 +2,9 @@
 
 use std::collections::LinkedList;
 
-/// How the words of one input's table lie: the closing number, then a presence word for each tick, then the samples of
-/// each tick, frame by frame and each frame in channel order. The pace has a table with no channels.
+/// How the words of one input's table lie: the closing number, then a presence word for each tick,
+/// then the samples of each tick, frame by frame and each frame in channel order. The pace has a
+/// table with no channels.
 #[derive(Clone, Copy, Debug, PartialEq, Eq)]
 pub struct Shape {
     /// The input's number.
@@ -40,7 +41,8 @@ pub struct View {
     /// The feeder knows all words of the table.
     pub feeds: bool,
     pub words: LinkedList<u64>,
-    /// A reader knows each closing number that it has seen, its looks and the samples that it has read, the oldest first.
+    /// A reader knows each closing number that it has seen, its looks and the samples that it has
+    /// read, the oldest first.
     pub closings: LinkedList<u64>,
     pub looks: LinkedList<Look>,
     pub heard: LinkedList<Heard>,
