@@ -5,7 +5,7 @@ use Rattle.std.specs.Prelude.{Bool, Option, Some, is_none}
 use Rattle.std.specs.List.{All, AllZip}
 use Rattle.io_caps.specs.declared.device.DeviceParts.{DeviceParts}
 use Rattle.input_rule.specs.declared.view.Shape.{Shape}
-use Rattle.input_cells.specs.Faces.{AreFeeds, AreNumbered, FeedsFace, InputFace, IsKept, SeatFace, face_of, unfed, unread}
+use Rattle.input_cells.specs.Faces.{AreFeeds, AreNumbered, InputFace, IsKept, SeatFace, face_of, unfed, unread}
 use Rattle.input_cells.specs.Shapes.{IsTableOf, shape_of}
 use Rattle.input_cells.proofs.Agreeing.{range_at, range_long, shape_in}
 
@@ -42,9 +42,10 @@ module _ (table : List InputFace) (feeders : List (Option SeatFace)) (readers : 
     numbered = numbered;
   })
 
-  pub feeds_are : (n : ℕ) → length table ≡ n → length readers ≡ most
-      → ◌≡◌ {A = FeedsFace} (record { table = map face_of spare; given = map is_none feeders; most = most; made = most - length readers }) (record { table = table; given = replicate n false; most = most; made = 0 })
-  feeds_are n long many =
-      let given : map is_none feeders ≡ replicate n false = ap (λ (l : List (Option SeatFace)). map is_none l) f ∙ (none_given table ∙ ap (λ (m : ℕ). replicate {A = Bool} m false) long) in
-      let made : most - length readers ≡ 0 = omega arith in
-      λ k. record { table = table_is k; given = given k; most = most; made = made k }
+-- the table that they are of
+pub spare_of : (table : List InputFace) (spare : List SeatFace) → spare ≡ map unread table → map face_of spare ≡ table
+spare_of table spare is = ap (λ (l : List SeatFace). map face_of l) is ∙ faces_unread table
+
+-- no feeder's pass was given yet
+pub none_yet : (table : List InputFace) (feeders : List (Option SeatFace)) → feeders ≡ map (λ (t : InputFace). Some (unfed t)) table → (n : ℕ) → length table ≡ n → map is_none feeders ≡ replicate n false
+none_yet table feeders f n long = ap (λ (l : List (Option SeatFace)). map is_none l) f ∙ (none_given table ∙ ap (λ (m : ℕ). replicate {A = Bool} m false) long)

@@ -1,5 +1,7 @@
 -- That blocks agree with what a pass has seen. (This project's own.)
-use Rattle.std.specs.Prelude.{◌+◌, ◌==◌, ◌&&◌, ◌||◌, nat_le, nat_lt, ℕ, ◌≡◌, ◌*◌, ◌<◌, true, false, List, [], ◌∷◌, length, zero, suc, Option, Some, None, IfSome, is_some, slice_index_or, Bool, ℤ}
+use Rattle.std.specs.Prelude.{◌+◌, ◌==◌, ◌&&◌, ◌||◌, nat_le, nat_lt, ℕ, ◌≡◌, ◌*◌, ◌<◌, true, false}
+use Rattle.std.specs.Prelude.{List, [], ◌∷◌, length, zero, suc, Option, Some, None, IfSome, is_some}
+use Rattle.std.specs.Prelude.{slice_index_or, Bool, ℤ}
 use Rattle.std.specs.List.{All, AllZip, Contains}
 use Rattle.io_caps.specs.declared.device.DeviceParts.{DeviceParts}
 use Rattle.map_entry.specs.Row.{channels_of}
@@ -14,13 +16,17 @@ use Rattle.input_rule.specs.Rule.{IsHeard, IsLook}
 use Rattle.input_cells.specs.Faces.{HasInput, HasShape, HasView, InputFace, SeatFace}
 use Rattle.input_cells.specs.Feeding.{block_fed}
 
--- a block that the pass saw is there; one that it missed after it had seen a closing number above the tick is not; the samples that it read are
--- those of the block; and a block that is there has the shape of its input
-pub record Agrees (d : DeviceParts) (looks : List Look) (heard : List Heard) (blocks : Blocks) : Type 0 where
+-- a block that the pass saw is there; one that it missed after it had seen a closing number above
+-- the tick is not; the samples that it read are those of the block; and a block that is there has
+-- the shape of its input
+pub record Agrees (d : DeviceParts) (looks : List Look) (heard : List Heard)
+    (blocks : Blocks) : Type 0 where
   pub seen : All (λ l. l.present ≡ true → is_some (blocks l.input l.tick) ≡ true) looks
   pub missed : All (λ l. l.present ≡ false → l.tick < l.closed → blocks l.input l.tick ≡ None) looks
   pub read : All (λ h. sample_in (blocks h.input h.tick) h.place ≡ h.value) heard
-  pub shape : (input tick : ℕ) → input < length d.inputs → IfSome (blocks input tick) (λ samples. length samples ≡ d.rate.frames * channels_of d.inputs input)
+  pub shape : (input tick : ℕ) → input < length d.inputs
+      → IfSome (blocks input tick)
+      (λ samples. length samples ≡ d.rate.frames * channels_of d.inputs input)
 
 -- a sample of a tick that was read
 pub record HasHeard (v : View) (tick place : ℕ) (value : ℤ) : Type 0 where
@@ -31,20 +37,28 @@ pub record HasHeard (v : View) (tick place : ℕ) (value : ℤ) : Type 0 where
   pub place_is : heard.place ≡ place
   pub value_is : heard.value ≡ value
 
--- a block of an input at a tick at which a look saw one: it is there and has the input's shape, and the samples that were read are its samples
+-- a block of an input at a tick at which a look saw one: it is there and has the input's shape, and
+-- the samples that were read are its samples
 pub record IsHeardOf (v : View) (tick : ℕ) (block : Option (List ℤ)) : Type 0 where
   pub there : is_some block ≡ true
   pub shape : IfSome block (λ samples. length samples ≡ block_len v.shape)
-  pub read : All (λ h. h.input ≡ v.shape.input → h.tick ≡ tick → sample_in block h.place ≡ h.value) v.heard
+  pub read : All (λ h. h.input ≡ v.shape.input → h.tick ≡ tick → sample_in block h.place ≡ h.value)
+      v.heard
 
--- the blocks of a tick as a pass sees them by flags: where a flag is set the pass saw a block, and the others are taken as none
-pub record AreHeard (pass : List SeatFace) (tick : ℕ) (flags : List Bool) (blocks : TickBlocks) : Type 0 where
+-- the blocks of a tick as a pass sees them by flags: where a flag is set the pass saw a block, and
+-- the others are taken as none
+pub record AreHeard (pass : List SeatFace) (tick : ℕ) (flags : List Bool)
+    (blocks : TickBlocks) : Type 0 where
   pub silent : (input : ℕ) → slice_index_or flags input false ≡ false → blocks input ≡ None
-  pub heard : (input : ℕ) → slice_index_or flags input false ≡ true → HasView pass input (λ v. IsHeardOf v tick (blocks input))
+  pub heard : (input : ℕ) → slice_index_or flags input false ≡ true
+      → HasView pass input (λ v. IsHeardOf v tick (blocks input))
 
 -- where a flag is set, the input is there and has the tick, and the pass saw its block
 abbrev pub AreSeen : List InputFace → List SeatFace → ℕ → List Bool → Type 0
-AreSeen table pass tick flags = (input : ℕ) → slice_index_or flags input false ≡ true → HasInput table input × HasShape table input (λ s. HasTick s tick) × HasView pass input (λ v. HasSeen v tick)
+AreSeen table pass tick flags =
+    (input : ℕ) → slice_index_or flags input false ≡ true
+    → HasInput table input × HasShape table input (λ s. HasTick s tick)
+    × HasView pass input (λ v. HasSeen v tick)
 
 -- the same, told by tests
 abbrev pub is_sight : ℕ → ℕ → Look → Bool
@@ -69,7 +83,9 @@ has_tick (t ∷ ts) (suc input) tick = has_tick ts input tick
 
 -- where a flag is set, the input is there and has the tick, and the pass saw its block
 abbrev pub AreSights : List InputFace → List SeatFace → ℕ → List Bool → Type 0
-AreSights table pass tick flags = (input : ℕ) → slice_index_or flags input false ≡ true → HasInput table input × (has_tick table input tick ≡ true) × (sees pass input tick ≡ true)
+AreSights table pass tick flags =
+    (input : ℕ) → slice_index_or flags input false ≡ true
+    → HasInput table input × (has_tick table input tick ≡ true) × (sees pass input tick ≡ true)
 
 -- the blocks that the feeders set, by input and tick
 abbrev pub blocks_set : List SeatFace → Blocks

@@ -1,5 +1,7 @@
 -- What contracts see of an input table and of its passes. (This project's own.)
-use Rattle.std.specs.Prelude.{ℕ, ◌≡◌, ◌<◌, ◌≤◌, ◌^◌, zero, suc, true, false, Bool, List, [], ◌∷◌, ◌++◌, length, map, slice_get, slice_index_or, Option, Some, None, IfSome}
+use Rattle.std.specs.Prelude.{ℕ, ◌≡◌, ◌<◌, ◌≤◌, ◌^◌, zero, suc, true, false, Bool, List, [], ◌∷◌}
+use Rattle.std.specs.Prelude.{◌++◌, length, map, slice_get, slice_index_or, Option, Some, None}
+use Rattle.std.specs.Prelude.{IfSome}
 use Rattle.std.specs.List.{All, AllZip}
 use Rattle.atomic_table.specs.Seated.{TableId}
 use Rattle.input_rule.specs.declared.view.Shape.{Shape}
@@ -59,7 +61,9 @@ IsUnfed pass = pass ≡ unfed (face_of pass)
 
 -- of feeders' passes the tables and the words stayed
 abbrev pub SameWords : List SeatFace → List SeatFace → Type 0
-SameWords before after = (map face_of after ≡ map face_of before) × (map (λ p. p.view.words) after ≡ map (λ p. p.view.words) before)
+SameWords before after =
+    (map face_of after ≡ map face_of before)
+    × (map (λ p. p.view.words) after ≡ map (λ p. p.view.words) before)
 
 -- ---- a reader
 
@@ -106,7 +110,8 @@ unread t = record { id = t.id; view = newcomer t.shape }
 
 -- ---- what makes the passes
 
--- of which table, whether each feeder's pass was given, and how many readers' passes there are and were made
+-- of which table, whether each feeder's pass was given, and how many readers' passes there are and
+-- were made
 pub record FeedsFace : Type 0 where
   pub table : List InputFace
   pub given : List Bool
@@ -125,14 +130,18 @@ pub record IsInput (key : Shape) (id : TableId) (shape : Shape) (block : ℕ) : 
 
 -- each table has its place for its number
 abbrev pub AreNumbered : List InputFace → Type 0
-AreNumbered table = (input : ℕ) (d : InputFace) → input < length table → (slice_index_or table input d).shape.input ≡ input
+AreNumbered table =
+    (input : ℕ) (d : InputFace) → input < length table
+    → (slice_index_or table input d).shape.input ≡ input
 
 -- a feeder's pass that was not given yet is unfed
 abbrev pub IsKept : InputFace → Option SeatFace → Type 0
 IsKept t pass = IfSome pass (λ p. p ≡ unfed t)
 
--- what makes the passes: the feeders' that were not given yet, the readers' that were not made yet, and one that tells of the table
-pub record AreFeeds (table : List InputFace) (feeders : List (Option SeatFace)) (readers : List (List SeatFace)) (spare : List SeatFace) (most : ℕ) : Type 0 where
+-- what makes the passes: the feeders' that were not given yet, the readers' that were not made yet,
+-- and one that tells of the table
+pub record AreFeeds (table : List InputFace) (feeders : List (Option SeatFace))
+    (readers : List (List SeatFace)) (spare : List SeatFace) (most : ℕ) : Type 0 where
   pub spare_is : spare ≡ map unread table
   pub feeders_are : AllZip IsKept table feeders
   pub readers_are : All (λ r. r ≡ map unread table) readers

@@ -1,8 +1,10 @@
 -- What the calls of a feeder's pass leave. (This project's own.)
-use Rattle.std.specs.Prelude.{ℕ, ◌≡◌, ◌≢◌, ◌-◌, ◌<◌, ◌≤◌, true, max, List, length, slice_index, slice_index_or, slice_set, Option, Some, ℤ, pos}
+use Rattle.std.specs.Prelude.{ℕ, ◌≡◌, ◌≢◌, ◌-◌, ◌<◌, ◌≤◌, true, max, List, length, slice_index}
+use Rattle.std.specs.Prelude.{slice_index_or, slice_set, Option, Some, ℤ, pos}
 use Rattle.input_rule.specs.declared.view.Shape.{Shape}
 use Rattle.input_rule.specs.declared.view.View.{View}
-use Rattle.input_rule.specs.Words.{AreLater, AreWords, HasTick, block_at, block_len, closing, presence, sample_at, sample_of, sample_word}
+use Rattle.input_rule.specs.Words.{AreLater, AreWords, HasTick, block_at, block_len, closing}
+use Rattle.input_rule.specs.Words.{presence, sample_at, sample_of, sample_word}
 use Rattle.input_rule.specs.Views.{wrote}
 use Rattle.input_cells.specs.Faces.{FeedsInput, SeatFace}
 use Rattle.input_cells.specs.Shapes.{IsSmall}
@@ -16,9 +18,12 @@ block_fed pass tick = block_at pass.view.shape pass.view.words tick
 abbrev pub closing_of : SeatFace → ℕ
 closing_of pass = closing pass.view.words
 
--- the pass may set this block at the tick: it is an input's, the table has the tick, the tick is not closed, and the block has the input's shape
+-- the pass may set this block at the tick: it is an input's, the table has the tick, the tick is
+-- not closed, and the block has the input's shape
 abbrev pub MaySet : SeatFace → ℕ → List ℤ → Type 0
-MaySet pass tick block = FeedsInput pass × HasTick pass.view.shape tick × (closing_of pass ≤ tick) × (length block ≡ block_len pass.view.shape)
+MaySet pass tick block =
+    FeedsInput pass × HasTick pass.view.shape tick × (closing_of pass ≤ tick)
+    × (length block ≡ block_len pass.view.shape)
 
 -- of a feeder's pass its words alone changed, and to later ones
 pub record FeedsOn (before after : SeatFace) : Type 0 where
@@ -54,8 +59,11 @@ pub record StoresSample (before after : SeatFace) (tick place : ℕ) (sample : �
 -- so many samples of a block were stored, and no presence or closing number
 pub record Spells (before after : SeatFace) (tick : ℕ) (block : List ℤ) (count : ℕ) : Type 0 where
   pub on : FeedsOn before after
-  pub low : (word : ℕ) → word ≤ before.view.shape.ticks → slice_index after.view.words word ≡ slice_index before.view.words word
-  pub spelt : (place : ℕ) → place < count → sample_at before.view.shape after.view.words tick place ≡ slice_index_or block place (pos 0)
+  pub low : (word : ℕ) → word ≤ before.view.shape.ticks
+      → slice_index after.view.words word ≡ slice_index before.view.words word
+  pub spelt : (place : ℕ) → place < count
+      → sample_at before.view.shape after.view.words tick place
+      ≡ slice_index_or block place (pos 0)
 
 -- ---- what the types keep
 
@@ -70,4 +78,5 @@ pub record IsFeedPass (v : View) (shape : Shape) (closed : ℕ) (set : List ℕ)
   pub shape_is : v.shape ≡ shape
   pub small : IsSmall shape
   pub closed_is : closing v.words ≡ closed
-  pub set_is : (tick : ℕ) → HasTick v.shape tick → slice_index v.words (presence v.shape tick) ≡ bit_of set (tick - v.shape.from)
+  pub set_is : (tick : ℕ) → HasTick v.shape tick
+      → slice_index v.words (presence v.shape tick) ≡ bit_of set (tick - v.shape.from)

@@ -5,7 +5,8 @@ use Rattle.input_rule.specs.declared.view.View.{View}
 use Rattle.input_rule.specs.Views.{HasMissed, HasSeen}
 use Rattle.packet_writer.specs.Packet.{Blocks}
 use Rattle.input_cells.specs.Agreement.{Agrees}
-use Rattle.input_cells.specs.Faces.{Grows, HasView, IsReadOf, InputFace, SeatFace, heard_of, looks_of}
+use Rattle.input_cells.specs.Faces.{Grows, HasView, IsReadOf, InputFace, SeatFace, heard_of}
+use Rattle.input_cells.specs.Faces.{looks_of}
 
 -- what a pass knows goes on growing, and it is a pass of the same table
 abbrev pub GrowsOn : Type 0
@@ -13,16 +14,25 @@ GrowsOn = (a b c : List SeatFace) → Grows a b → Grows b c → Grows a c
 
 -- a pass that goes on stays one of its table
 abbrev pub StaysOfTable : Type 0
-StaysOfTable = (table : List InputFace) (before after : List SeatFace) → Grows before after → IsReadOf table before → IsReadOf table after
+StaysOfTable =
+    (table : List InputFace) (before after : List SeatFace) → Grows before after
+    → IsReadOf table before → IsReadOf table after
 
 -- a block that was seen stays seen, and one that was missed after its tick was closed stays missed
 abbrev pub KeepsSeen : Type 0
-KeepsSeen = (before after : List SeatFace) → Grows before after → (input tick : ℕ) → HasView before input (λ v. HasSeen v tick) → HasView after input (λ v. HasSeen v tick)
+KeepsSeen =
+    (before after : List SeatFace) → Grows before after → (input tick : ℕ)
+    → HasView before input (λ v. HasSeen v tick) → HasView after input (λ v. HasSeen v tick)
 
 -- what a pass missed at a closed tick stays missed as it goes on
 abbrev pub KeepsMissed : Type 0
-KeepsMissed = (before after : List SeatFace) → Grows before after → (input tick : ℕ) → HasView before input (λ v. HasMissed v tick) → HasView after input (λ v. HasMissed v tick)
+KeepsMissed =
+    (before after : List SeatFace) → Grows before after → (input tick : ℕ)
+    → HasView before input (λ v. HasMissed v tick) → HasView after input (λ v. HasMissed v tick)
 
 -- to know more leaves fewer blocks that agree
 abbrev pub AgreesBefore : Type 0
-AgreesBefore = (d : DeviceParts) (blocks : Blocks) (before after : List SeatFace) → Grows before after → Agrees d (looks_of after) (heard_of after) blocks → Agrees d (looks_of before) (heard_of before) blocks
+AgreesBefore =
+    (d : DeviceParts) (blocks : Blocks) (before after : List SeatFace) → Grows before after
+    → Agrees d (looks_of after) (heard_of after) blocks
+    → Agrees d (looks_of before) (heard_of before) blocks

@@ -10,7 +10,14 @@ use Rattle.input_cells.specs.Faces.{InputFace}
 
 -- the table of an input, and of the pace, which is no input and so has no channels
 abbrev pub shape_of : DeviceParts → ℕ → ℕ → ℕ → Shape
-shape_of d from ticks input = record { input = input; from = from; ticks = ticks; frames = d.rate.frames; channels = channels_of d.inputs input }
+shape_of d from ticks input =
+    record {
+      input = input;
+      from = from;
+      ticks = ticks;
+      frames = d.rate.frames;
+      channels = channels_of d.inputs input;
+    }
 
 -- of each input, and then of the pace
 abbrev pub shapes_of : DeviceParts → ℕ → ℕ → List Shape

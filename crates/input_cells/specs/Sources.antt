@@ -2,7 +2,8 @@
 use Rattle.std.specs.Prelude.{ℕ, ◌≡◌, Bool, List}
 use Rattle.input_cells.specs.Faces.{Grows, InputFace, SeatFace}
 
--- a lent pass: who lent it, its table, the tick, the flags of the inputs whose blocks it saw, and what it knows
+-- a lent pass: who lent it, its table, the tick, the flags of the inputs whose blocks it saw, and
+-- what it knows
 pub record SeenFace : Type 0 where
   pub lender : ℕ
   pub table : List InputFace
@@ -10,7 +11,8 @@ pub record SeenFace : Type 0 where
   pub flags : List Bool
   pub pass : List SeatFace
 
--- it is the same pass at the same table and tick, and what it knows grew from all that it grew from before
+-- it is the same pass at the same table and tick, and what it knows grew from all that it grew from
+-- before
 pub record StaysSeen (before after : SeenFace) : Type 0 where
   pub lender : after.lender ≡ before.lender
   pub table : after.table ≡ before.table

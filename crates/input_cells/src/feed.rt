@@ -22,7 +22,8 @@ use thiserror::Error;
 #[error("the block was set before")]
 pub struct AlreadySet;
 
-/// The pass of the one feeder of an input, or of the pace. Contracts see what it knows: all words of its table.
+/// The pass of the one feeder of an input, or of the pace. Contracts see what it knows: all words
+/// of its table.
 #[derive(Drop)]
 pub struct FeedPass {
     pub(crate) feeder: InputFeeder,
@@ -78,7 +79,8 @@ impl FeedPass {
 
     /// Whether a block of so many samples has the shape of an input.
     fn fits(&self, samples: usize) -> bool
-        ensures { IsTrue result ↔ (FeedsInput self.now × (samples ≡ block_len self.now.view.shape)) }
+        ensures { IsTrue result
+            ↔ (FeedsInput self.now × (samples ≡ block_len self.now.view.shape)) }
     {
         self.shape.channels > 0 && samples as u64 == self.shape.frames * self.shape.channels
     }
@@ -90,15 +92,17 @@ impl FeedPass {
         self.shape.from <= tick && tick - self.shape.from < self.shape.ticks
     }
 
-    /// Whether `set` may be called: the pass is an input's, the table has the tick, the tick is not closed, and the block has the input's shape.
+    /// Whether `set` may be called: the pass is an input's, the table has the tick, the tick is not
+    /// closed, and the block has the input's shape.
     pub fn may_set(&self, tick: u64, block: &Block) -> bool
         ensures { IsTrue result ↔ MaySet self.now tick block.now }
     {
         self.has_tick(tick) && self.closed <= tick && self.fits(block.len())
     }
 
-    /// Sets the block of a tick that is not closed: first the samples, then that it is there. Refused exactly where this pass set that
-    /// tick before, and then nothing changes. It takes no memory.
+    /// Sets the block of a tick that is not closed: first the samples, then that it is there.
+    /// Refused exactly where this pass set that tick before, and then nothing changes. It takes no
+    /// memory.
     pub fn set(&mut self, table: &InputTable, tick: u64, block: &Block) -> Result<(), AlreadySet>
         requires pass { IsFeedOf table.now self.old }
         requires may { MaySet self.old tick block.now }
@@ -118,7 +122,8 @@ impl FeedPass {
         Ok(())
     }
 
-    /// Raises the closing number, or leaves a greater one. The ticks below it are closed. It takes no memory.
+    /// Raises the closing number, or leaves a greater one. The ticks below it are closed. It takes
+    /// no memory.
     pub fn close(&mut self, table: &InputTable, upto: u64)
         requires { IsFeedOf table.now self.old }
         ensures closes { Closes self.old self.new upto }

@@ -89,7 +89,8 @@ impl InputFeeder {
         }
     }
 
-    /// Takes in what a reader knows, by one load, and learns by another that it is true of the words.
+    /// Takes in what a reader knows, by one load, and learns by another that it is true of the
+    /// words.
     pub(crate) fn confirm(&mut self, table: &OneInput, reader: InputReader)
         requires table { face_of self.old ≡ table.now }
         requires reader { face_of reader ≡ table.now }

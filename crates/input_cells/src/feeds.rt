@@ -1,6 +1,7 @@
 //! What makes the passes.
 
-ghost use Rattle.std.specs.Prelude.{◌≡◌, ◌+◌, ◌<◌, ◌↔◌, true, Some, None, IfOk, IsErr, OnErr, OnOk, length, map, slice_get, slice_index_or, slice_set, false};
+ghost use Rattle.std.specs.Prelude.{◌≡◌, ◌+◌, ◌<◌, ◌↔◌, true, Some, None, IfOk, IsErr, OnErr, OnOk};
+ghost use Rattle.std.specs.Prelude.{length, map, slice_get, slice_index_or, slice_set, false};
 ghost use Rattle.input_cells.specs.Faces.{IsFeedOf, IsReadOf, IsUnfed, face_of, unread};
 
 use crate::feed::FeedPass;
@@ -9,8 +10,8 @@ use crate::table::InputTable;
 use io_caps::NoSeat;
 use std::marker::Model;
 
-/// What makes the passes of a table, which were all laid out when it was started. Contracts see which feeders' passes were given
-/// and how many readers' passes were made.
+/// What makes the passes of a table, which were all laid out when it was started. Contracts see
+/// which feeders' passes were given and how many readers' passes were made.
 #[derive(Drop)]
 pub struct Feeds {
     pub(crate) feeders: Vec<Option<FeedPass>>,
@@ -26,9 +27,15 @@ impl Model for Feeds {
 
     ghost Value = { FeedsFace };
 
-    ghost view = { λ f. record { table = map face_of f.spare; given = map is_none f.feeders.items; most = f.most; made = f.most - length f.readers.items } };
+    ghost view = { λ f. record {
+      table = map face_of f.spare;
+      given = map is_none f.feeders.items;
+      most = f.most;
+      made = f.most - length f.readers.items;
+    } };
 
-    ghost invariant = { λ f. AreFeeds (map face_of f.spare) f.feeders.items f.readers.items f.spare f.most };
+    ghost invariant = { λ f.
+        AreFeeds (map face_of f.spare) f.feeders.items f.readers.items f.spare f.most };
 }
 
 /// Takes a pass out of its place, where it is there.
@@ -44,8 +51,8 @@ fn take_pass(place: &mut Option<FeedPass>) -> Result<FeedPass, NoSeat>
 }
 
 impl Feeds {
-    /// The pass of the feeder of an input, or of the pace, whose number is the next one behind the inputs. Refused exactly where it
-    /// was given before.
+    /// The pass of the feeder of an input, or of the pace, whose number is the next one behind the
+    /// inputs. Refused exactly where it was given before.
     pub fn feed(&mut self, table: &InputTable, input: u8) -> Result<FeedPass, NoSeat>
         requires table { self.old.table ≡ table.now }
         requires input { input < length table.now }
@@ -53,13 +60,15 @@ impl Feeds {
         ensures input { IfOk result (λ p. slice_get table.now input ≡ Some (face_of p)) }
         ensures pass { IfOk result (IsFeedOf table.now) }
         ensures unfed { IfOk result IsUnfed }
-        ensures given { OnOk result (self.new ≡ record self.old { given = slice_set self.old.given input true }) }
+        ensures given { OnOk result
+            (self.new ≡ record self.old { given = slice_set self.old.given input true }) }
         ensures kept { OnErr result (self.new ≡ self.old) }
     {
         take_pass(&mut self.feeders[input as usize])
     }
 
-    /// A reader's pass that has seen nothing. Refused exactly where as many as the table was started with were made.
+    /// A reader's pass that has seen nothing. Refused exactly where as many as the table was
+    /// started with were made.
     pub fn reader(&mut self, table: &InputTable) -> Result<ReadPass, NoSeat>
         requires { self.old.table ≡ table.now }
         ensures err { IsErr result ↔ (self.old.made ≡ self.old.most) }

@@ -1,8 +1,10 @@
 //! Functions that carry laws: their clauses are what they are for.
 
-ghost use Rattle.input_cells.specs.Laws.{AgreesBefore, GrowsOn, KeepsMissed, KeepsSeen, StaysOfTable};
+ghost use Rattle.input_cells.specs.Laws.{AgreesBefore, GrowsOn, KeepsMissed, KeepsSeen};
+ghost use Rattle.input_cells.specs.Laws.{StaysOfTable};
 
-/// What a pass knows only grows: what it has seen stays seen, and to know more leaves fewer blocks that agree.
+/// What a pass knows only grows: what it has seen stays seen, and to know more leaves fewer blocks
+/// that agree.
 pub fn passes_grow()
     ensures on { GrowsOn }
     ensures table { StaysOfTable }

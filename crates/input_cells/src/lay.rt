@@ -1,6 +1,7 @@
 //! How the tables of a device's inputs are laid out.
 
-ghost use Rattle.std.specs.Prelude.{◌≡◌, ◌+◌, ◌-◌, ◌≤◌, ◌∷◌, ◌++◌, [], ℕ, IfOk, OnOk, OnErr, Some, length, map, replicate};
+ghost use Rattle.std.specs.Prelude.{◌≡◌, ◌+◌, ◌-◌, ◌≤◌, ◌∷◌, ◌++◌, [], ℕ, IfOk, OnOk, OnErr, Some};
+ghost use Rattle.std.specs.Prelude.{length, map, replicate};
 ghost use Rattle.std.specs.List.{All, range_with_len};
 ghost use Rattle.io_caps.specs.declared.limits.TheConstants.{LAP_TICKS, MOST_CHANNELS, MOST_FRAMES};
 ghost use Rattle.map_entry.specs.Row.{channels_of};
@@ -75,7 +76,8 @@ fn first_row(alloc: Global, from: u64, len: usize) -> Result<Vec<u64>, NoMemory>
 /// A row that begins with the words of each input's table to which nothing was fed.
 fn widest_row(alloc: Global, device: &Device, from: u64, ticks: u64) -> Result<Vec<u64>, NoMemory>
     requires { ticks ≤ LAP_TICKS }
-    ensures { IfOk result (λ row. (input : ℕ) → BeginsUnfed (shape_of device.now from ticks input) row.items) }
+    ensures { IfOk result (λ row. (input : ℕ)
+        → BeginsUnfed (shape_of device.now from ticks input) row.items) }
 {
     let block = device.rate().frames as u64 * most_channels(device);
     first_row(alloc, from, 1 + (ticks + ticks * block) as usize)
@@ -86,10 +88,13 @@ impl Laid {
     fn push(&mut self, alloc: Global, shape: Shape, row: &[u64]) -> Result<(), NoMemory>
         requires small { IsSmall shape }
         requires row { BeginsUnfed shape row.now }
-        requires feeders { self.old.feeders.items ≡ map (λ t. Some (unfed t)) self.old.inputs.items }
+        requires feeders { self.old.feeders.items
+            ≡ map (λ t. Some (unfed t)) self.old.inputs.items }
         requires reader { self.old.reader ≡ map unread self.old.inputs.items }
-        ensures shapes { OnOk result (map (λ t. t.shape) self.new.inputs.items ≡ map (λ t. t.shape) self.old.inputs.items ++ shape ∷ []) }
-        ensures feeders { OnOk result (self.new.feeders.items ≡ map (λ t. Some (unfed t)) self.new.inputs.items) }
+        ensures shapes { OnOk result (map (λ t. t.shape) self.new.inputs.items
+            ≡ map (λ t. t.shape) self.old.inputs.items ++ shape ∷ []) }
+        ensures feeders { OnOk result
+            (self.new.feeders.items ≡ map (λ t. Some (unfed t)) self.new.inputs.items) }
         ensures reader { OnOk result (self.new.reader ≡ map unread self.new.inputs.items) }
     {
         let (one, mut feeder) = OneInput::start(alloc, shape, row)?;
@@ -104,8 +109,10 @@ impl Laid {
 /// Lays out the tables of the device's inputs, and of the pace.
 pub(crate) fn lay(alloc: Global, device: &Device, from: u64, ticks: u64) -> Result<Laid, NoMemory>
     requires { ticks ≤ LAP_TICKS }
-    ensures shapes { IfOk result (λ l. map (λ t. t.shape) l.inputs.items ≡ map (shape_of device.now from ticks) (range_with_len 0 (length device.now.inputs + 1))) }
-    ensures feeders { IfOk result (λ l. l.feeders.items ≡ map (λ t. Some (unfed t)) l.inputs.items) }
+    ensures shapes { IfOk result (λ l. map (λ t. t.shape) l.inputs.items
+        ≡ map (shape_of device.now from ticks) (range_with_len 0 (length device.now.inputs + 1))) }
+    ensures feeders { IfOk result
+        (λ l. l.feeders.items ≡ map (λ t. Some (unfed t)) l.inputs.items) }
     ensures reader { IfOk result (λ l. l.reader ≡ map unread l.inputs.items) }
 {
     let row = widest_row(alloc, device, from, ticks)?;
@@ -145,7 +152,8 @@ impl ReadPass {
         count: u8,
     ) -> Result<Vec<ReadPass>, NoMemory>
         requires { self.old ≡ map unread inputs.now }
-        ensures new { IfOk result (λ ps. (length ps.items ≡ count) × All (λ p. p ≡ map unread inputs.now) ps.items) }
+        ensures count { IfOk result (λ ps. length ps.items ≡ count) }
+        ensures new { IfOk result (λ ps. All (λ p. p ≡ map unread inputs.now) ps.items) }
         ensures same { self.new ≡ self.old }
     {
         let mut passes = Vec::new(alloc);

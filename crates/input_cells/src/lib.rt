@@ -25,3 +25,6 @@ pub type FeedPasses = io_caps::ListOf<FeedPass>;
 
 /// Readers' passes.
 pub type ReadPasses = io_caps::ListOf<ReadPass>;
+
+#[cfg(test)]
+mod tests;

@@ -1,6 +1,7 @@
 //! The table of one input, and a reader's seat at it.
 
-ghost use Rattle.std.specs.Prelude.{Option, List, ℤ, pos, length, slice_index_or, ◌≡◌, ◌+◌, ◌*◌, ◌<◌, ◌≤◌, ◌^◌, ◌↔◌, IfOk, IsTrue, ℕ, true, false};
+ghost use Rattle.std.specs.Prelude.{Option, List, ℤ, pos, length, slice_index_or, ◌≡◌, ◌+◌, ◌*◌};
+ghost use Rattle.std.specs.Prelude.{◌<◌, ◌≤◌, ◌^◌, ◌↔◌, IfOk, IsTrue, ℕ, true, false};
 ghost use Rattle.std.specs.List.{Contains};
 ghost use Rattle.input_rule.specs.declared.view.Heard.{Heard};
 ghost use Rattle.input_rule.specs.Views.{HasMissed, HasSeen, closed_of, listened, looked, saw};
@@ -37,7 +38,8 @@ impl Model for OneInput {
 }
 
 impl OneInput {
-    /// The table of an input to which nothing was fed, and its feeder. Its words are the first ones of the row.
+    /// The table of an input to which nothing was fed, and its feeder. Its words are the first ones
+    /// of the row.
     pub(crate) fn start(
         alloc: Global,
         shape: Shape,
@@ -89,7 +91,8 @@ impl OneInput {
         (tick - self.shape.from) as usize + 1
     }
 
-    /// The first sample word of a tick, behind which all samples of the tick are words of the table.
+    /// The first sample word of a tick, behind which all samples of the tick are words of the
+    /// table.
     pub(crate) fn block_word(&self, tick: u64) -> usize
         requires { HasTick self.now.shape tick }
         ensures word { result ≡ block_start self.now.shape tick }
@@ -104,7 +107,8 @@ impl OneInput {
     /// Whether the blocks have so many frames of the part's channels.
     fn has_room(&self, part: Part, frames: usize) -> bool
         requires { frames < 2 ^ 63 }
-        ensures room { IsTrue result ↔ ((part.frame + frames) * part.channels ≤ block_len self.now.shape) }
+        ensures room { IsTrue result
+            ↔ ((part.frame + frames) * part.channels ≤ block_len self.now.shape) }
         ensures short { block_len self.now.shape < 2 ^ 63 }
     {
         (part.frame as u128 + frames as u128) * part.channels as u128 <= self.block as u128
@@ -188,32 +192,36 @@ impl InputReader {
         requires tick { HasTick table.now.shape tick }
         requires place { place < block_len table.now.shape }
         requires seen { HasSeen self.old.view tick }
-        ensures heard { self.new ≡ record self.old { view = listened self.old.view tick place result } }
-        ensures same { (h : Heard) → Contains self.old.view.heard h → h.tick ≡ tick → h.place ≡ place → h.value ≡ result }
+        ensures heard { self.new
+            ≡ record self.old { view = listened self.old.view tick place result } }
+        ensures same { (h : Heard) → Contains self.old.view.heard h → h.tick ≡ tick
+            → h.place ≡ place → h.value ≡ result }
     {
         let word = table.block_word(tick) + place;
         sample_of(table.table.shared.load::<Hears>(&mut self.seat, word))
     }
-    /// Copies the samples at places of a block that was seen, each so many places behind the one before, by one load each. Out of
-    /// line, so that its loop keeps its registers.
+    /// Copies the samples at places of a block that was seen, each so many places behind the one
+    /// before, by one load each. Out of line, so that its loop keeps its registers.
     #[inline(never)]
     fn copy(&mut self, table: &OneInput, tick: u64, first: usize, step: usize, out: &mut [i32])
         requires table { face_of self.old ≡ table.now }
         requires tick { HasTick table.now.shape tick }
         requires seen { HasSeen self.old.view tick }
-        requires places { (n : ℕ) → n < length out.old → first + n * step < block_len table.now.shape }
+        requires places { (n : ℕ) → n < length out.old
+            → first + n * step < block_len table.now.shape }
         requires short { block_len table.now.shape < 2 ^ 63 }
         ensures grows { GrowsAt self.old self.new }
         ensures len { length out.new ≡ length out.old }
-        ensures heard { (n : ℕ) → n < length out.old → HasHeard self.new.view tick (first + n * step) (slice_index_or out.new n (pos 0)) }
+        ensures heard { (n : ℕ) → n < length out.old
+            → HasHeard self.new.view tick (first + n * step) (slice_index_or out.new n (pos 0)) }
     {
         for n in 0..out.len() {
             out[n] = self.listen(table, tick, first + n * step);
         }
     }
 
-    /// Copies the samples of a channel of a block that was seen, from a frame on. Where there are not so many, no block agrees with
-    /// what was seen, and it is silence.
+    /// Copies the samples of a channel of a block that was seen, from a frame on. Where there are
+    /// not so many, no block agrees with what was seen, and it is silence.
     pub(crate) fn copy_channel(&mut self, table: &OneInput, tick: u64, part: Part, out: &mut [i32])
         requires table { face_of self.old ≡ table.now }
         requires tick { HasTick table.now.shape tick }
@@ -221,7 +229,9 @@ impl InputReader {
         requires channel { part.channel < part.channels }
         ensures grows { GrowsAt self.old self.new }
         ensures len { length out.new ≡ length out.old }
-        ensures value { (b : Option (List ℤ)) → IsHeardOf self.new.view tick b → HasFrames b part.channels (part.frame + length out.old) → out.new ≡ channel_samples b part.channels part.channel part.frame (length out.old) }
+        ensures value { (b : Option (List ℤ)) → IsHeardOf self.new.view tick b
+            → HasFrames b part.channels (part.frame + length out.old)
+            → out.new ≡ channel_samples b part.channels part.channel part.frame (length out.old) }
     {
         if table.has_room(part, out.len()) {
             let first = part.frame as usize * part.channels + part.channel as usize;

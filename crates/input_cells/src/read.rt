@@ -13,7 +13,8 @@ use crate::one::{InputReader, Part};
 use crate::table::InputTable;
 use std::marker::Model;
 
-/// A reader's pass: a seat at the table of each input, and of the pace. Contracts see what it knows of each.
+/// A reader's pass: a seat at the table of each input, and of the pace. Contracts see what it knows
+/// of each.
 #[derive(Drop)]
 pub struct ReadPass {
     pub(crate) seats: Vec<InputReader>,
@@ -29,7 +30,8 @@ impl Model for ReadPass {
 }
 
 impl ReadPass {
-    /// The closing number of an input, or of the pace, whose number is the next one behind the inputs. The ticks below it are closed.
+    /// The closing number of an input, or of the pace, whose number is the next one behind the
+    /// inputs. The ticks below it are closed.
     pub fn closed(&mut self, table: &InputTable, input: u8) -> u64
         requires pass { IsReadOf table.now self.old }
         requires input { input < length table.now }
@@ -61,7 +63,8 @@ impl ReadPass {
         seat.look(one, tick)
     }
 
-    /// The sample of an input's block at a frame and a channel. An earlier look of this pass saw the block.
+    /// The sample of an input's block at a frame and a channel. An earlier look of this pass saw
+    /// the block.
     pub fn sample(
         &mut self,
         table: &InputTable,
@@ -76,8 +79,10 @@ impl ReadPass {
         requires frame { HasShape table.now input (λ s. frame < s.frames) }
         requires channel { HasShape table.now input (λ s. channel < s.channels) }
         requires seen { HasView self.old input (λ v. HasSeen v tick) }
-        ensures heard { self.new ≡ changed (λ v. listened v tick (frame * v.shape.channels + channel) result) input self.old }
-        ensures same { HasView self.old input (λ v. (h : Heard) → Contains v.heard h → h.tick ≡ tick → h.place ≡ frame * v.shape.channels + channel → h.value ≡ result) }
+        ensures heard { self.new ≡ changed
+            (λ v. listened v tick (frame * v.shape.channels + channel) result) input self.old }
+        ensures same { HasView self.old input (λ v. (h : Heard) → Contains v.heard h → h.tick ≡ tick
+            → h.place ≡ frame * v.shape.channels + channel → h.value ≡ result) }
         ensures pass { IsReadOf table.now self.new }
         ensures grows { Grows self.old self.new }
     {
@@ -85,7 +90,8 @@ impl ReadPass {
         let seat = &mut self.seats[input as usize];
         seat.listen(one, tick, one.place(frame, channel))
     }
-    /// Copies the samples of a channel of an input's block, which an earlier look of this pass saw, from a frame on.
+    /// Copies the samples of a channel of an input's block, which an earlier look of this pass saw,
+    /// from a frame on.
     pub(crate) fn copy_channel(
         &mut self,
         table: &InputTable,
@@ -101,7 +107,9 @@ impl ReadPass {
         requires channel { part.channel < part.channels }
         ensures grows { Grows self.old self.new }
         ensures len { length out.new ≡ length out.old }
-        ensures value { (b : Option (List ℤ)) → HasView self.new input (λ v. IsHeardOf v tick b) → HasFrames b part.channels (part.frame + length out.old) → out.new ≡ channel_samples b part.channels part.channel part.frame (length out.old) }
+        ensures value { (b : Option (List ℤ)) → HasView self.new input (λ v. IsHeardOf v tick b)
+            → HasFrames b part.channels (part.frame + length out.old)
+            → out.new ≡ channel_samples b part.channels part.channel part.frame (length out.old) }
     {
         let one = &table.inputs[input as usize];
         let seat = &mut self.seats[input as usize];

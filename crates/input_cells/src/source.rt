@@ -13,8 +13,9 @@ use crate::read::ReadPass;
 use crate::table::InputTable;
 use packet_writer::Samples;
 
-/// The blocks of one tick as a pass sees them: where an input's flag is set a look of the pass saw its block, and the others are
-/// taken as none. Each sample is read by one load, and kept in what the pass knows.
+/// The blocks of one tick as a pass sees them: where an input's flag is set a look of the pass saw
+/// its block, and the others are taken as none. Each sample is read by one load, and kept in what
+/// the pass knows.
 #[derive(Drop)]
 pub struct SeenSamples<'a> {
     pub table: &'a InputTable,
@@ -46,8 +47,11 @@ impl<'a> SeenSamples<'a> {
     ) -> SeenSamples<'a>
         requires pass { IsReadOf table.now pass.old }
         requires seen { AreSeen table.now pass.old tick flags.now }
-        ensures lent { (result.pass.ghost_name ≡ pass.entry.ghost_name) × (result.pass.now ≡ pass.old) }
-        ensures rest { (result.table.now ≡ table.now) × (result.tick ≡ tick) × (result.flags.now ≡ flags.now) }
+        ensures lender { result.pass.ghost_name ≡ pass.entry.ghost_name }
+        ensures pass { result.pass.now ≡ pass.old }
+        ensures table { result.table.now ≡ table.now }
+        ensures tick { result.tick ≡ tick }
+        ensures flags { result.flags.now ≡ flags.now }
     {
         SeenSamples {
             table,
@@ -57,11 +61,18 @@ impl<'a> SeenSamples<'a> {
         }
     }
 
-    /// Blocks that agree with all that the pass has seen agree with these samples, and blocks that agree with these have all
-    /// frames of a tick.
+    /// Blocks that agree with all that the pass has seen agree with these samples, and blocks that
+    /// agree with these have all frames of a tick.
     pub fn agree(&self)
-        ensures blocks { (d : DeviceParts) (from ticks : ℕ) (blocks : Blocks) → IsTableOf d from ticks self.now.table.now → Agrees d (looks_of self.now.pass.now) (heard_of self.now.pass.now) blocks → ⟦<SeenSamples<'static> as Samples>⟧.agrees self.now (found_block blocks self.now.flags.now self.now.tick) }
-        ensures frames { (d : DeviceParts) (from ticks : ℕ) → IsTableOf d from ticks self.now.table.now → OfAgreed (⟦<SeenSamples<'static> as Samples>⟧.agrees self.now) (λ b. HaveFrames d.inputs b d.rate.frames) }
+        ensures blocks { (d : DeviceParts) (from ticks : ℕ) (blocks : Blocks)
+            → IsTableOf d from ticks self.now.table.now
+            → Agrees d (looks_of self.now.pass.now) (heard_of self.now.pass.now) blocks
+            → ⟦<SeenSamples<'static> as Samples>⟧.agrees self.now
+            (found_block blocks self.now.flags.now self.now.tick) }
+        ensures frames { (d : DeviceParts) (from ticks : ℕ)
+            → IsTableOf d from ticks self.now.table.now
+            → OfAgreed (⟦<SeenSamples<'static> as Samples>⟧.agrees self.now)
+            (λ b. HaveFrames d.inputs b d.rate.frames) }
     {}
 }
 

@@ -1,6 +1,7 @@
 //! The table of all inputs.
 
-ghost use Rattle.std.specs.Prelude.{◌≡◌, ◌+◌, ◌-◌, ◌<◌, ◌≤◌, ◌^◌, ◌↔◌, IfOk, IsTrue, false, length, replicate};
+ghost use Rattle.std.specs.Prelude.{◌≡◌, ◌+◌, ◌-◌, ◌<◌, ◌≤◌, ◌^◌, ◌↔◌, IfOk, IsTrue, false, length};
+ghost use Rattle.std.specs.Prelude.{replicate};
 ghost use Rattle.io_caps.specs.declared.limits.TheConstants.{LAP_TICKS, MOST_WORKERS};
 ghost use Rattle.input_rule.specs.Words.{HasTick};
 ghost use Rattle.input_cells.specs.Faces.{HasShape};
@@ -13,8 +14,8 @@ use io_caps::{Device, NoMemory};
 use std::alloc::Global;
 use std::marker::Model;
 
-/// The input table: a table for each input, by their numbers, and one for the pace. Contracts see which tables they are and
-/// how their words lie.
+/// The input table: a table for each input, by their numbers, and one for the pace. Contracts see
+/// which tables they are and how their words lie.
 #[derive(Drop)]
 pub struct InputTable {
     pub(crate) inputs: Vec<OneInput>,
@@ -32,8 +33,9 @@ impl Model for InputTable {
 }
 
 impl InputTable {
-    /// A table for the inputs of a device, with so many ticks from a first one on and room for so many readers, and what makes its passes.
-    /// No block is there, and each closing number, the pace's too, is the first tick.
+    /// A table for the inputs of a device, with so many ticks from a first one on and room for so
+    /// many readers, and what makes its passes. No block is there, and each closing number, the
+    /// pace's too, is the first tick.
     pub fn start(
         alloc: Global,
         device: &Device,
@@ -45,7 +47,11 @@ impl InputTable {
         requires end { from + ticks < 2 ^ 64 }
         requires readers { readers ≤ MOST_WORKERS }
         ensures table { IfOk result (λ t. IsTableOf device.now from ticks t.0) }
-        ensures feeds { IfOk result (λ t. t.1 ≡ record { table = t.0; given = replicate (length device.now.inputs + 1) false; most = readers; made = 0 }) }
+        ensures of { IfOk result (λ t. t.1.table ≡ t.0) }
+        ensures given { IfOk result (λ t.
+            t.1.given ≡ replicate (length device.now.inputs + 1) false) }
+        ensures most { IfOk result (λ t. t.1.most ≡ readers) }
+        ensures made { IfOk result (λ t. t.1.made ≡ 0) }
     {
         let mut laid = lay(alloc, device, from, ticks)?;
         let passes = laid.reader.copies(alloc, laid.inputs.as_slice(), readers)?;

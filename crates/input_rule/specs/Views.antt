@@ -20,15 +20,16 @@ feeder shape words =
 
 -- a reader that has seen nothing
 abbrev pub newcomer : Shape → View
-newcomer shape = record {
-  live = true;
-  shape = shape;
-  feeds = false;
-  words = [];
-  closings = [];
-  looks = [];
-  heard = [];
-}
+newcomer shape =
+    record {
+      live = true;
+      shape = shape;
+      feeds = false;
+      words = [];
+      closings = [];
+      looks = [];
+      heard = [];
+    }
 
 -- a new reader of the same table
 abbrev pub reader : View → View
@@ -36,23 +37,25 @@ reader v = newcomer v.shape
 
 -- what one knows who took in another's view, and what is left of the other: nothing
 abbrev pub taken_in : View → View → View
-taken_in v w = record v {
-  closings = v.closings ++ w.closings;
-  looks = v.looks ++ w.looks;
-  heard = v.heard ++ w.heard;
-}
+taken_in v w =
+    record v {
+      closings = v.closings ++ w.closings;
+      looks = v.looks ++ w.looks;
+      heard = v.heard ++ w.heard;
+    }
 
 -- what is left of a view that was taken in: it is of no table, and knows nothing
 abbrev pub spent : View
-spent = record {
-  live = false;
-  shape = record { input = 0; from = 0; ticks = 0; frames = 0; channels = 0 };
-  feeds = false;
-  words = [];
-  closings = [];
-  looks = [];
-  heard = [];
-}
+spent =
+    record {
+      live = false;
+      shape = record { input = 0; from = 0; ticks = 0; frames = 0; channels = 0 };
+      feeds = false;
+      words = [];
+      closings = [];
+      looks = [];
+      heard = [];
+    }
 
 -- the number last seen of those in a list, or 0
 abbrev pub last_of : List ℕ → ℕ
@@ -76,24 +79,17 @@ saw v number = record v { closings = v.closings ++ number ∷ [] }
 abbrev pub looked : View → ℕ → Bool → View
 looked v tick present =
     record v {
-      looks = v.looks ++ record {
-        input = v.shape.input;
-        tick = tick;
-        present = present;
-        closed = closed_of v;
-      } ∷ [];
+      looks = v.looks
+          ++ record { input = v.shape.input; tick = tick; present = present; closed = closed_of v }
+          ∷ [];
     }
 
 -- a reader read a sample of a tick, at a place of its block
 abbrev pub listened : View → ℕ → ℕ → ℤ → View
 listened v tick place value =
     record v {
-      heard = v.heard ++ record {
-        input = v.shape.input;
-        tick = tick;
-        place = place;
-        value = value;
-      } ∷ [];
+      heard = v.heard
+          ++ record { input = v.shape.input; tick = tick; place = place; value = value } ∷ [];
     }
 
 -- a look of this view saw the block of the tick

@@ -1,0 +1,277 @@
+//! Tables worked by hand, and that no call gives up where there is memory.
+
+ghost use Rattle.std.specs.Prelude.{◌≡◌, ◌<◌, ◌≤◌, ◌+◌, ◌^◌, length};
+ghost use Rattle.io_caps.specs.declared.limits.TheConstants.{LAP_TICKS};
+ghost use Rattle.input_cells.specs.Faces.{IsFeedOf, IsReadOf};
+
+use super::*;
+use io_caps::limits::LAP_TICKS;
+use io_caps::{
+    Device, DeviceParts, Input, Inputs, Labels, NoMemory, Output, Outputs, Parent, Rate, Routable,
+    Text, Width,
+};
+use std::alloc::Global;
+use std::test::Fail;
+
+// ---- a device of an input and an output, of two channels each, with two frames a tick
+
+fn text(alloc: Global, byte: u8) -> Result<Text, NoMemory> {
+    let mut made = Text::new(alloc);
+    made.push(byte)?;
+    Ok(made)
+}
+
+fn labels(alloc: Global) -> Result<Labels, NoMemory> {
+    let mut made = Labels::new(alloc);
+    made.push(text(alloc, b'l')?)?;
+    made.push(text(alloc, b'r')?)?;
+    Ok(made)
+}
+
+fn inputs(alloc: Global) -> Result<Inputs, NoMemory> {
+    let mut made = Inputs::new(alloc);
+    made.push(Input {
+        id: text(alloc, b'a')?,
+        name: Text::new(alloc),
+        description: Text::new(alloc),
+        labels: labels(alloc)?,
+        width: Width::L16,
+        payload_type: 96,
+        block_size: 1,
+        reordering: true,
+        parent: Parent::Nobody,
+    })?;
+    Ok(made)
+}
+
+fn outputs(alloc: Global) -> Result<Outputs, NoMemory> {
+    let mut made = Outputs::new(alloc);
+    made.push(Output {
+        id: text(alloc, b'x')?,
+        name: Text::new(alloc),
+        description: Text::new(alloc),
+        labels: labels(alloc)?,
+        width: Width::L16,
+        payload_type: 96,
+        ssrc: 1,
+        source_id: None,
+        routable: Routable::All,
+    })?;
+    Ok(made)
+}
+
+fn device(alloc: Global) -> Result<Device, Fail> {
+    let parts = DeviceParts {
+        rate: Rate {
+            hz: 48000,
+            frames: 2,
+        },
+        base: 0,
+        hold: 1,
+        inputs: inputs(alloc)?,
+        outputs: outputs(alloc)?,
+    };
+    match Device::build(alloc, parts) {
+        Ok(device) => Ok(device),
+        Err(_) => Err("a device".into()),
+    }
+}
+
+// ---- its table
+
+/// A table with the pass of its input's feeder and a reader's.
+#[derive(Drop)]
+struct Running {
+    table: InputTable,
+    feeder: FeedPass,
+    reader: ReadPass,
+    ghost feeds: { IsFeedOf table feeder },
+    ghost reads: { IsReadOf table reader },
+}
+
+/// The passes of a table that was started with one reader, and that each is given once.
+fn passes(table: InputTable, mut feeds: Feeds) -> Result<Running, Fail>
+    requires of { feeds.table ≡ table }
+    requires input { 0 < length table }
+{
+    let feeder = feeds.feed(&table, 0)?;
+    let reader = feeds.reader(&table)?;
+    if feeds.feed(&table, 0).is_ok() || feeds.reader(&table).is_ok() {
+        return Err("no seat".into());
+    }
+    Ok(Running {
+        table,
+        feeder,
+        reader,
+    })
+}
+
+fn start(alloc: Global, from: u64, ticks: u64) -> Result<Running, Fail> {
+    if ticks > LAP_TICKS || from > LAP_TICKS {
+        return Err("a table's ticks".into());
+    }
+    let (table, feeds) = InputTable::start(alloc, &device(alloc)?, from, ticks, 1)?;
+    if table.feeders() != 2 {
+        return Err("an input and the pace".into());
+    }
+    passes(table, feeds)
+}
+
+/// What is done at a table.
+#[derive(Clone, Copy)]
+enum Step {
+    /// The feeder sets the block of a tick.
+    Set(u64, [i32; 4]),
+    /// The feeder raises the closing number.
+    Close(u64),
+    /// The reader loads the closing number, looks at a tick, and reads a sample of a tick: at a frame of a channel.
+    Closed,
+    Look(u64),
+    Sample(u64, u16, u8),
+}
+
+/// What is told.
+#[derive(Clone, Copy, Debug, PartialEq, Eq)]
+enum Told {
+    Done,
+    /// It was set before.
+    Again,
+    /// The closing number of the feeder, or the one that the reader loaded.
+    Closing(u64),
+    There(bool),
+    Value(i32),
+    /// It may not be asked.
+    No,
+}
+
+fn block(alloc: Global, samples: [i32; 4]) -> Result<Block, NoMemory> {
+    Ok(Block::from_vec(Vec::from_array(alloc, samples)?))
+}
+
+impl Running {
+    fn set(&mut self, tick: u64, block: &Block) -> Told {
+        if !self.feeder.may_set(tick, block) {
+            return Told::No;
+        }
+        match self.feeder.set(&self.table, tick, block) {
+            Ok(()) => Told::Done,
+            Err(AlreadySet) => Told::Again,
+        }
+    }
+
+    fn close(&mut self, upto: u64) -> Told {
+        self.feeder.close(&self.table, upto);
+        Told::Closing(self.feeder.closing())
+    }
+
+    fn closed(&mut self) -> Told {
+        if self.table.inputs() == 0 {
+            return Told::No;
+        }
+        Told::Closing(self.reader.closed(&self.table, 0))
+    }
+
+    fn look(&mut self, tick: u64) -> Told {
+        if self.table.inputs() == 0 || !self.table.has_tick(0, tick) {
+            return Told::No;
+        }
+        Told::There(self.reader.look(&self.table, 0, tick))
+    }
+
+    /// A sample of a block that is there.
+    fn sample(&mut self, tick: u64, frame: u16, channel: u8) -> Told {
+        let table = &self.table;
+        if table.inputs() == 0 || !table.has_tick(0, tick) {
+            return Told::No;
+        }
+        if !table.has_frame(0, frame) || !table.has_channel(0, channel) {
+            return Told::No;
+        }
+        if !self.reader.look(table, 0, tick) {
+            return Told::No;
+        }
+        Told::Value(self.reader.sample(table, 0, tick, frame, channel))
+    }
+
+    fn take(&mut self, alloc: Global, step: Step) -> Result<Told, NoMemory> {
+        Ok(match step {
+            Step::Set(tick, samples) => self.set(tick, &block(alloc, samples)?),
+            Step::Close(upto) => self.close(upto),
+            Step::Closed => self.closed(),
+            Step::Look(tick) => self.look(tick),
+            Step::Sample(tick, frame, channel) => self.sample(tick, frame, channel),
+        })
+    }
+}
+
+/// Samples of 16 bits, which are the highest of 24.
+const FRAMES: [i32; 4] = [0x111100, 0x222200, 0x333300, 0x444400];
+
+/// A table of tick 0.
+const BY_HAND: [(Step, Told); 17] = [
+    (Step::Closed, Told::Closing(0)),
+    (Step::Look(0), Told::There(false)),
+    (Step::Look(1), Told::No),
+    (Step::Sample(0, 1, 0), Told::No),
+    (Step::Set(1, FRAMES), Told::No),
+    (Step::Set(0, FRAMES), Told::Done),
+    (Step::Look(0), Told::There(true)),
+    (Step::Sample(0, 1, 0), Told::Value(3355392)),
+    (Step::Sample(0, 0, 1), Told::Value(2236928)),
+    (Step::Sample(0, 2, 0), Told::No),
+    (Step::Sample(0, 0, 2), Told::No),
+    (Step::Set(0, [9, 9, 9, 9]), Told::Again),
+    (Step::Sample(0, 1, 0), Told::Value(3355392)),
+    (Step::Close(1), Told::Closing(1)),
+    (Step::Closed, Told::Closing(1)),
+    (Step::Close(0), Told::Closing(1)),
+    (Step::Set(0, FRAMES), Told::No),
+];
+
+#[test]
+fn input_table_by_hand(rt: HostRuntime) -> Result<(), Fail> {
+    let alloc = rt.alloc();
+    let mut running = start(alloc, 0, 1)?;
+    for (step, wanted) in BY_HAND {
+        assert_eq!(rt; running.take(alloc, step)?, wanted);
+    }
+    Ok(())
+}
+
+/// A table of ticks 7 to 9.
+const THREE_TICKS: [(Step, Told); 11] = [
+    (Step::Closed, Told::Closing(7)),
+    (Step::Look(6), Told::No),
+    (Step::Set(9, [-1, i32::MIN, i32::MAX, 0]), Told::Done),
+    (Step::Set(7, [5, 6, 7, 8]), Told::Done),
+    (Step::Close(9), Told::Closing(9)),
+    (Step::Look(8), Told::There(false)),
+    (Step::Sample(9, 0, 0), Told::Value(-1)),
+    (Step::Sample(9, 0, 1), Told::Value(i32::MIN)),
+    (Step::Sample(9, 1, 0), Told::Value(i32::MAX)),
+    (Step::Sample(7, 1, 1), Told::Value(8)),
+    (Step::Set(8, FRAMES), Told::No),
+];
+
+#[test]
+fn ticks_by_hand(rt: HostRuntime) -> Result<(), Fail> {
+    let alloc = rt.alloc();
+    let mut running = start(alloc, 7, 3)?;
+    for (step, wanted) in THREE_TICKS {
+        assert_eq!(rt; running.take(alloc, step)?, wanted);
+    }
+    Ok(())
+}
+
+fn goes_to_a_thread<T: Send + Drop>() {}
+
+fn is_shared<T: Sync>() {}
+
+#[test]
+fn threads_may_have_them(_rt: HostRuntime) {
+    is_shared::<InputTable>();
+    goes_to_a_thread::<InputTable>();
+    goes_to_a_thread::<Feeds>();
+    goes_to_a_thread::<FeedPass>();
+    goes_to_a_thread::<ReadPass>();
+}
