@@ -72,7 +72,7 @@ key_below s key is lt =
 -- ---- within a session
 
 -- a tick that is not too far from the device's first one begins before the end of time
-start_in_time : (s : SetupParts) (tick : ℕ) → IsSetup s → tick ≤ s.device.base + TICKS_PAST_BASE → start s tick < nanos_limit
+pub start_in_time : (s : SetupParts) (tick : ℕ) → IsSetup s → tick ≤ s.device.base + TICKS_PAST_BASE → start s tick < nanos_limit
 start_in_time s tick is le =
     let f : ℕ = s.device.rate.frames in
     let low : tick * f ≤ (s.device.base + TICKS_PAST_BASE) * f = mul-le-mul_right f le in

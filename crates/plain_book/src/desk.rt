@@ -83,8 +83,8 @@ impl Model for PlainDesk {
         × (d.lists.all ≡ entries_of d.setup d.kept.journal) };
 }
 
-/// The base rows as entries of the map.
-fn base(alloc: Global, setup: &Setup) -> Result<Entries, NoMemory>
+/// The base rows as entries of the map, from the device's first tick on.
+pub fn base_entries(alloc: Global, setup: &Setup) -> Result<Entries, NoMemory>
     ensures { IfOk result (λ made. made ≡ base_entries setup.now) }
 {
     let rows = setup.rows.as_slice();
@@ -101,8 +101,8 @@ impl PlainDesk {
     pub fn new(alloc: Global, setup: &Setup) -> Result<PlainDesk, NoMemory>
         ensures { IfOk result (λ made. made ≡ desk_parts setup.now 0 []) }
     {
-        let all = base(alloc, setup)?;
-        let live = base(alloc, setup)?.into_vec();
+        let all = base_entries(alloc, setup)?;
+        let live = base_entries(alloc, setup)?.into_vec();
         let kept = Kept {
             from: 0,
             seen: 0,

@@ -21,7 +21,7 @@ mod tests;
 
 pub use calls::{Journal, JournalCall};
 pub use decisions::decide;
-pub use desk::{Desk, PlainDesk};
+pub use desk::{Desk, PlainDesk, base_entries};
 pub use given::{Given, GivenItems};
 pub use history::{ClaimItem, ClaimItems, History, HistoryItem, ReplyItem, ReplyItems, Said};
 pub use kept::{Decided, Kept, Made, Settling, look, settle, stage, unstage};

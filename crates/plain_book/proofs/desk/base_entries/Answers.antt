@@ -9,7 +9,7 @@ use Rattle.map_entry.proofs.Rows.{rows_long}
 use Rattle.plain_book.specs.Journal.{base_entry}
 use Rattle.plain_book.proofs.Base.{entry_is}
 use Rattle.plain_book.proofs.Ranges.{map_range_more}
-use Rattle.plain_book.proofs.desk.base.Goals as goal
+use Rattle.plain_book.proofs.desk.base_entries.Goals as goal
 
 pub overflow_cast-output : goal.overflow_cast-output
 overflow_cast-output c = omega (arith, rows_long _ c.setup.invariant, c.setup.invariant.device.bounds.few_outputs, ap length c.as_slice-rows.ensures, c.loop-output-test.true)
