@@ -20,7 +20,7 @@ use Rattle.plain_book.specs.Given.{AreGiven, replies_of}
 use Rattle.plain_book.specs.History.{history_of, replies_to}
 use Rattle.plain_book.specs.Journal.{entries_of}
 use Rattle.plain_book.specs.Rows.{SelectsAlike}
-use Rattle.interleavings.specs.Legal.{Form, IsLegalHistory, asks_itself, first_floor, says_reply}
+use Rattle.interleavings.specs.Legal.{Form, IsLegalHistory, StandsThere, asks_itself, first_floor, says_reply}
 use Rattle.interleavings.specs.Told.{AreSaid, Ask, given_to, requests_of}
 
 -- ---- two ways to gather
@@ -205,11 +205,11 @@ history_by_given claims given last = history_of claims last (replies_of given)
 
 -- a history of plain requests that is legal by a way to gather
 abbrev pub IsLegalBy : SetupParts → Gathering → ℕ → Blocks → (ℕ → List Request) → History → Type 0
-IsLegalBy s g claims blocks asks h = IsLegalHistory s asks_itself says_reply claims blocks (form_by s g (entries_of s h.journal) blocks) asks h
+IsLegalBy s g claims blocks asks h = IsLegalHistory s asks_itself says_reply StandsThere claims blocks (form_by s g (entries_of s h.journal) blocks) asks h
 
 -- a history of asks of any kind that is legal by a way to gather
 abbrev pub IsToldBy : SetupParts → Gathering → ℕ → Blocks → (ℕ → List Ask) → History → Type 0
-IsToldBy s g claims blocks asks h = IsLegalHistory s (λ ask. ask.asked) (λ ask. ask.says) claims blocks (form_by s g (entries_of s h.journal) blocks) asks h
+IsToldBy s g claims blocks asks h = IsLegalHistory s (λ ask. ask.asked) (λ ask. ask.says) StandsThere claims blocks (form_by s g (entries_of s h.journal) blocks) asks h
 
 -- the items tell each client what is said to its asks of any kind, for these answers
 abbrev pub AreAllSaid : (ℕ → List Ask) → List Given → List ReplyItem → Type 0

@@ -1,5 +1,6 @@
 -- Legal histories: one order of all claims and calls, in which each claim's packet is by the whole journal and each reply is the
--- one-thread book's at its place. The form of the flags and the kinds of asks are parameters. (This project's own.)
+-- one-thread book's at its place. The form of the flags, the kinds of asks, and where replies stand for which the book wasn't asked,
+-- are parameters. (This project's own.)
 use Rattle.std.specs.Prelude.{◌≡◌, ℕ, ◌+◌, ◌≤◌, ◌&&◌, eqb, Bool, true, false, cond, if◌then◌else◌, List, [], ◌∷◌, length, take, drop, All, Option, Some, None, IfSome, option_map, slice_get}
 use Rattle.map_entry.specs.Setup.{SetupParts}
 use Rattle.packet_writer.specs.Flags.{AreClosed, AreFree, Sights}
@@ -95,24 +96,32 @@ pub record IsAskedReply (s : SetupParts) (journal : List JournalCall) (claims cl
   pub said_is : says (Some (reply_at s journal item.stamp request)) ≡ Some item.said
   pub call : IfSome (call_of s (take item.stamp.calls journal) client item.stamp.claims request (reply_at s journal item.stamp request)) (λ call. slice_get journal item.stamp.calls ≡ Some call)
 
--- a reply for which the book wasn't asked has just the stamp from which its client goes on
-pub record IsFixedReply (floor : Stamp) (says : Option Reply → Option Said) (item : ReplyItem) : Type 0 where
-  pub stamp_is : item.stamp ≡ floor
+-- a rule for replies for which the book wasn't asked: which stamps one may have, by the place from which its client goes on
+abbrev pub Standing : Type 1
+Standing = Stamp → Stamp → Type 0
+
+-- the stamp is just that place
+abbrev pub StandsThere : Standing
+StandsThere floor place = place ≡ floor
+
+-- a reply for which the book wasn't asked has a stamp that the rule allows
+pub record IsFixedReply (Stands : Standing) (floor : Stamp) (says : Option Reply → Option Said) (item : ReplyItem) : Type 0 where
+  pub stands : Stands floor item.stamp
   pub said_is : says None ≡ Some item.said
 
 -- a reply to an ask of either kind
-abbrev pub IsReplyTo : SetupParts → List JournalCall → ℕ → ℕ → Stamp → (Option Reply → Option Said) → Option Request → ReplyItem → Type 0
-IsReplyTo s journal claims client floor says None item = IsFixedReply floor says item
-IsReplyTo s journal claims client floor says (Some request) item = IsAskedReply s journal claims client floor says request item
+abbrev pub IsReplyTo : SetupParts → Standing → List JournalCall → ℕ → ℕ → Stamp → (Option Reply → Option Said) → Option Request → ReplyItem → Type 0
+IsReplyTo s Stands journal claims client floor says None item = IsFixedReply Stands floor says item
+IsReplyTo s Stands journal claims client floor says (Some request) item = IsAskedReply s journal claims client floor says request item
 
 -- a client's replies, one to each ask in order, each from where the one before it leaves the client
-abbrev pub AreTold : {A : Type 0} → SetupParts → (A → Option Request) → (A → Option Reply → Option Said) → List JournalCall → ℕ → ℕ → Stamp → List A → List ReplyItem → Type 0
-AreTold s asked says journal claims client floor [] [] = Unit {0}
-AreTold s asked says journal claims client floor [] (item ∷ items) = ⊥
-AreTold s asked says journal claims client floor (ask ∷ asks) [] = ⊥
-AreTold s asked says journal claims client floor (ask ∷ asks) (item ∷ items) =
-    IsReplyTo s journal claims client floor (says ask) (asked ask) item
-    × AreTold s asked says journal claims client (next_floor item.stamp (accepted_at s journal item.stamp (asked ask))) asks items
+abbrev pub AreTold : {A : Type 0} → SetupParts → (A → Option Request) → (A → Option Reply → Option Said) → Standing → List JournalCall → ℕ → ℕ → Stamp → List A → List ReplyItem → Type 0
+AreTold s asked says Stands journal claims client floor [] [] = Unit {0}
+AreTold s asked says Stands journal claims client floor [] (item ∷ items) = ⊥
+AreTold s asked says Stands journal claims client floor (ask ∷ asks) [] = ⊥
+AreTold s asked says Stands journal claims client floor (ask ∷ asks) (item ∷ items) =
+    IsReplyTo s Stands journal claims client floor (says ask) (asked ask) item
+    × AreTold s asked says Stands journal claims client (next_floor item.stamp (accepted_at s journal item.stamp (asked ask))) asks items
 
 -- how many of a client's replies accepted the call of a number
 abbrev pub calls_made : {A : Type 0} → SetupParts → (A → Option Request) → List JournalCall → ℕ → List A → List ReplyItem → ℕ
@@ -122,8 +131,8 @@ calls_made s asked journal number (ask ∷ asks) (item ∷ items) =
     cond (eqb item.stamp.calls number && accepted_at s journal item.stamp (asked ask)) 1 0 + calls_made s asked journal number asks items
 
 -- the replies to all asks, in the order of a history; each call is the call of exactly one of them, which is one of its own client
-pub record AreReplies {A : Type 0} (s : SetupParts) (asked : A → Option Request) (says : A → Option Reply → Option Said) (journal : List JournalCall) (claims : ℕ) (asks : ℕ → List A) (items : List ReplyItem) : Type 0 where
-  pub replies : (client : ℕ) → AreTold s asked says journal claims client first_floor (asks client) (replies_to client items)
+pub record AreReplies {A : Type 0} (s : SetupParts) (asked : A → Option Request) (says : A → Option Reply → Option Said) (Stands : Standing) (journal : List JournalCall) (claims : ℕ) (asks : ℕ → List A) (items : List ReplyItem) : Type 0 where
+  pub replies : (client : ℕ) → AreTold s asked says Stands journal claims client first_floor (asks client) (replies_to client items)
   pub once : (number : ℕ) (call : JournalCall) → slice_get journal number ≡ Some call → (client : ℕ) → calls_made s asked journal number (asks client) (replies_to client items) ≡ cond (eqb client call.client) 1 0
   pub order : AreInOrder items
 
@@ -131,10 +140,10 @@ pub record AreReplies {A : Type 0} (s : SetupParts) (asked : A → Option Reques
 
 -- A history of so many claims over blocks, and of what each client asked: its calls are a legal journal, its claims are all there,
 -- with flags that the form allows and packets by that whole journal, and each client's replies stand at their places.
-pub record IsLegalHistory {A : Type 0} (s : SetupParts) (asked : A → Option Request) (says : A → Option Reply → Option Said) (claims : ℕ) (blocks : Blocks) (Allows : Form) (asks : ℕ → List A) (h : History) : Type 0 where
+pub record IsLegalHistory {A : Type 0} (s : SetupParts) (asked : A → Option Request) (says : A → Option Reply → Option Said) (Stands : Standing) (claims : ℕ) (blocks : Blocks) (Allows : Form) (asks : ℕ → List A) (h : History) : Type 0 where
   pub journal : IsLegalJournal s claims h.journal
   pub claimed : AreClaims s h.journal blocks Allows claims h.claims
-  pub replied : AreReplies s asked says h.journal claims asks h.replies
+  pub replied : AreReplies s asked says Stands h.journal claims asks h.replies
 
 -- ---- plain requests
 
@@ -148,8 +157,8 @@ says_reply request reply = option_map Plain reply
 
 -- a legal history of plain requests, in closed form
 abbrev pub IsClosedHistory : SetupParts → ℕ → Blocks → (ℕ → List Request) → History → Type 0
-IsClosedHistory s claims blocks asks h = IsLegalHistory s asks_itself says_reply claims blocks (closed_form s h.journal blocks) asks h
+IsClosedHistory s claims blocks asks h = IsLegalHistory s asks_itself says_reply StandsThere claims blocks (closed_form s h.journal blocks) asks h
 
 -- a legal history of plain requests, in free form
 abbrev pub IsFreeHistory : SetupParts → ℕ → Blocks → Sights → (ℕ → List Request) → History → Type 0
-IsFreeHistory s claims blocks seen asks h = IsLegalHistory s asks_itself says_reply claims blocks (free_form s h.journal blocks seen) asks h
+IsFreeHistory s claims blocks seen asks h = IsLegalHistory s asks_itself says_reply StandsThere claims blocks (free_form s h.journal blocks seen) asks h

@@ -6,7 +6,7 @@ use Rattle.plain_book.specs.declared.history.Said.{Said}
 use Rattle.plain_book.specs.declared.replies.Reply.{Reply}
 use Rattle.plain_book.specs.declared.requests.Request.{Request}
 use Rattle.plain_book.specs.declared.requests.Stamp.{Stamp}
-use Rattle.interleavings.specs.Legal.{IsFixedReply, accepts, next_floor}
+use Rattle.interleavings.specs.Legal.{IsFixedReply, StandsThere, accepts, next_floor}
 
 -- the answers to a client
 abbrev pub given_to : ℕ → List Given → List Given
@@ -31,7 +31,7 @@ pub record IsSaidFor (says : Option Reply → Option Said) (request : Request) (
 -- An item says what is said to an ask, and the rest goes on from where that leaves the client: by the next answer where the ask
 -- asks the book, and at the same place where it doesn't.
 abbrev pub IsSaidBy : Stamp → (Option Reply → Option Said) → Option Request → List Given → ReplyItem → (Stamp → List Given → Type 0) → Type 0
-IsSaidBy floor says None given item Rest = IsFixedReply floor says item × Rest floor given
+IsSaidBy floor says None given item Rest = IsFixedReply StandsThere floor says item × Rest floor given
 IsSaidBy floor says (Some request) [] item Rest = ⊥
 IsSaidBy floor says (Some request) (g ∷ given) item Rest = IsSaidFor says request g item × Rest (next_floor g.stamp (accepts g.reply)) given
 

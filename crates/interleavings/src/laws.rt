@@ -12,7 +12,7 @@ ghost use Rattle.plain_book.specs.declared.requests.Request.{Request};
 ghost use Rattle.plain_book.specs.Given.{AreGiven, replies_of};
 ghost use Rattle.plain_book.specs.History.{AreInOrder, replies_to};
 ghost use Rattle.interleavings.specs.Events.{IsRun, block_in, claims_in};
-ghost use Rattle.interleavings.specs.Legal.{AreReplies, IsClosedHistory, IsFreeHistory, asks_itself, first_floor, says_reply};
+ghost use Rattle.interleavings.specs.Legal.{AreReplies, IsClosedHistory, IsFreeHistory, StandsThere, asks_itself, first_floor, says_reply};
 ghost use Rattle.interleavings.specs.Run.{asks_in, has_seen, history_in};
 ghost use Rattle.interleavings.specs.Serial.{SerialStep, serial_asks, serial_history, serial_run};
 ghost use Rattle.interleavings.specs.Told.{AreSaid, Ask, given_to, requests_of};
@@ -41,9 +41,9 @@ pub fn closed_histories_are_free()
 /// kind what is said for them to each client, in the order of a history.
 pub fn answers_make_legal_replies()
     ensures plain { (s : SetupParts) (journal : List JournalCall) (claims : ℕ) (given : List Given) → AreGiven s [] 0 given journal claims
-        → AreReplies s asks_itself says_reply journal claims (requests_of given) (replies_of given) }
+        → AreReplies s asks_itself says_reply StandsThere journal claims (requests_of given) (replies_of given) }
     ensures told { (s : SetupParts) (journal : List JournalCall) (claims : ℕ) (asks : ℕ → List Ask) (given : List Given) (items : List ReplyItem)
         → AreGiven s [] 0 given journal claims
         → ((client : ℕ) → AreSaid (λ ask. ask.asked) (λ ask. ask.says) first_floor (asks client) (given_to client given) (replies_to client items))
-        → AreInOrder items → AreReplies s (λ ask. ask.asked) (λ ask. ask.says) journal claims asks items }
+        → AreInOrder items → AreReplies s (λ ask. ask.asked) (λ ask. ask.says) StandsThere journal claims asks items }
 {}
