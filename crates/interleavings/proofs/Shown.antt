@@ -1,8 +1,9 @@
 -- Flags and packets by a row.
 use Rattle.std.proofs.Common.{◌≡◌, ℕ, ◌<◌, Bool, true, false, List, [], length, map, refl, sym, ap, ◌∙◌, arith, zero-add, ℤ}
-use Rattle.std.specs.Prelude.{◌&&◌, if◌then◌else◌, Option, Some, None}
+use Rattle.std.specs.Prelude.{◌&&◌, if◌then◌else◌, is_some, IfNone, Option, Some, None}
 use Rattle.std.specs.List.{range_with_len}
 use Rattle.std.specs.Option.{unwrap_or}
+use Rattle.std.proofs.lemmas.Bool.{false≢true}
 use Rattle.std.proofs.lemmas.List.{ext_get_or}
 use Rattle.std.proofs.lemmas.List.FromFn.{get_or-map-range_with_len, length-map-range_with_len}
 use Rattle.map_entry.specs.declared.cell.Cell.{Cell}
@@ -25,6 +26,11 @@ use Rattle.interleavings.proofs.Ranging.{alike}
 pub flag_is : (named there flag marked : Bool) → marked ≡ named → (marked ≡ true → flag ≡ there) → (marked ≡ false → flag ≡ false) → flag ≡ (named && there)
 flag_is true there flag marked is seen other = seen is
 flag_is false there flag marked is seen other = other is
+
+-- what holds where there is none
+pub when_none : {A P : Type 0} (x : Option A) → is_some x ≡ false → IfNone x P → P
+when_none None none holds = holds
+when_none (Some a) none holds = absurd (false≢true (sym none))
 
 -- flags that are these at each input
 pub flags_are : (f : ℕ → Bool) (n : ℕ) (made : List Bool) → length made ≡ n → ((i : ℕ) → i < n → flag_of made i ≡ f i) → made ≡ map f (range_with_len 0 n)

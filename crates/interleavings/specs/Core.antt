@@ -1,5 +1,7 @@
--- What contracts see of a core, and what it keeps so that it needs no event again. (This project's own.)
-use Rattle.std.specs.Prelude.{◌≡◌, ℕ, ◌*◌, ◌<◌, ◌≤◌, max, eqb, nat_lt, Bool, false, List, [], ◌∷◌, ◌++◌, length, map, All, Option, Some, None, slice_get, if◌then◌else◌, ℤ}
+-- What contracts see of a core, and what it keeps so that it needs no event again. (This
+-- project's own.)
+use Rattle.std.specs.Prelude.{◌≡◌, ℕ, ◌≤◌, max, eqb, Bool, false, List, [], ◌∷◌, ◌++◌, length, map}
+use Rattle.std.specs.Prelude.{All, Option, Some, None, slice_get, if◌then◌else◌, ℤ}
 use Rattle.std.specs.BTreeMap.{BTreeMap, get}
 use Rattle.std.specs.List.{range_with_len}
 use Rattle.std.specs.Option.{option_map_or, option_to_list}
@@ -25,7 +27,8 @@ use Rattle.interleavings.specs.declared.events.Taken.{Taken}
 use Rattle.interleavings.specs.declared.facts.Facts.{Facts}
 use Rattle.interleavings.specs.declared.facts.Session.{Session}
 use Rattle.interleavings.specs.declared.facts.Sight.{Sight}
-use Rattle.interleavings.specs.Events.{IsInRange, answer_of, block_in, claims_in, journal_in, latest_of, run_of}
+use Rattle.interleavings.specs.Events.{IsInRange, answer_of, block_in, claims_in, journal_in}
+use Rattle.interleavings.specs.Events.{latest_of, run_of}
 use Rattle.interleavings.specs.Legal.{IsFreeHistory}
 use Rattle.interleavings.specs.Run.{asks_in, has_seen, history_in, seen_from}
 
@@ -40,35 +43,50 @@ pub record CoreParts : Type 0 where
 
 -- the core of these parts
 abbrev pub core_parts : SetupParts → ℕ → ℕ → List Taken → CoreParts
-core_parts setup ticks workers taken = record { setup = setup; ticks = ticks; workers = workers; taken = taken }
+core_parts setup ticks workers taken =
+    record {
+      setup = setup;
+      ticks = ticks;
+      workers = workers;
+      taken = taken;
+    }
 
--- The history of a core's events is legal, in free form: with the claims made, over the blocks that were set, by what the workers
--- saw, and of the requests of each client.
+-- The history of a core's events is legal, in free form: with the claims made, over the blocks that
+-- were set, by what the workers saw, and of the requests of each client.
 abbrev pub IsLegalCore : CoreParts → Type 0
 IsLegalCore c =
-    IsFreeHistory c.setup (claims_in c.taken) (block_in c.taken) (has_seen c.setup c.taken) (asks_in c.taken) (history_in c.setup c.taken)
+    IsFreeHistory c.setup (claims_in c.taken) (block_in c.taken) (has_seen c.setup c.taken)
+    (asks_in c.taken) (history_in c.setup c.taken)
 
 -- ---- the book
 
 -- a book's reply to a client's request, as an item of a history
 abbrev pub plain_item : DeskParts → ℕ → Request → ReplyItem
-plain_item d client request = reply_item client (stamp (length d.journal) d.claims) (Plain (reply_of d.setup d.journal d.claims request))
+plain_item d client request =
+    reply_item client (stamp (length d.journal) d.claims)
+    (Plain (reply_of d.setup d.journal d.claims request))
 
 -- a book behind a client's request: with its call, where the book accepts one
 abbrev pub desk_after : DeskParts → ℕ → Request → DeskParts
 desk_after d client request =
     let reply = reply_of d.setup d.journal d.claims request in
-    desk_parts d.setup d.claims (d.journal ++ option_to_list (call_of d.setup d.journal client d.claims request reply))
+    let call = call_of d.setup d.journal client d.claims request reply in
+    desk_parts d.setup d.claims (d.journal ++ option_to_list call)
 
 -- ---- what workers saw
 
 -- whether a worker saw the block of an input for its latest claim
 abbrev pub sees : SetupParts → List Taken → ℕ → ℕ → Bool
-sees s taken worker input = option_map_or (λ k. seen_from s worker k input None taken) (latest_of worker taken) false
+sees s taken worker input =
+    option_map_or (λ k. seen_from s worker k input None taken) (latest_of worker taken) false
 
 -- a worker's latest claim, and what it saw for that claim
 abbrev pub sight_in : SetupParts → List Taken → ℕ → Sight
-sight_in s taken worker = record { latest = latest_of worker taken; seen = map (sees s taken worker) (range_with_len 0 (length s.device.inputs)) }
+sight_in s taken worker =
+    record {
+      latest = latest_of worker taken;
+      seen = map (sees s taken worker) (range_with_len 0 (length s.device.inputs));
+    }
 
 -- the same value so many times
 abbrev pub repeated : {A : Type 0} → A → ℕ → List A
@@ -78,20 +96,26 @@ repeated value count = map (λ i. value) (range_with_len 0 count)
 abbrev pub no_sight : ℕ → Sight
 no_sight inputs = record { latest = None; seen = repeated false inputs }
 
--- what a worker saw for a claim that it draws, where this is its sight: what it saw for a claim of the same tick
+-- what a worker saw for a claim that it draws, where this is its sight: what it saw for a claim of
+-- the same tick
 abbrev pub inherited : SetupParts → Option ℕ → List Bool → ℕ → List Bool
 inherited s None seen k = repeated false (length s.device.inputs)
-inherited s (Some j) seen k = if eqb (tick_of_claim s j) (tick_of_claim s k) then seen else repeated false (length s.device.inputs)
+inherited s (Some j) seen k =
+    if eqb (tick_of_claim s j) (tick_of_claim s k) then seen
+    else repeated false (length s.device.inputs)
 
 -- ---- blocks and closings
 
 -- the blocks of a table, by input and tick
 abbrev pub set_at : List (BTreeMap ℕ (List ℤ)) → Blocks
-set_at table input tick = option_map_or (λ blocks. get nat_cmp blocks tick) (slice_get table input) None
+set_at table input tick =
+    option_map_or (λ blocks. get nat_cmp blocks tick) (slice_get table input) None
 
 -- each block has all frames of a tick
 abbrev pub AreWhole : SetupParts → Blocks → Type 0
-AreWhole s blocks = (input tick : ℕ) → HasFrames (blocks input tick) (channels_of s.device.inputs input) s.device.rate.frames
+AreWhole s blocks =
+    (input tick : ℕ)
+    → HasFrames (blocks input tick) (channels_of s.device.inputs input) s.device.rate.frames
 
 -- the number below which an event closes an input's ticks
 abbrev pub upto_by : ℕ → Event → ℕ
@@ -112,7 +136,8 @@ closing_in (t ∷ taken) input = max (upto_by input t.event) (closing_in taken i
 abbrev pub HasRow : SetupParts → List Entry → ℕ → List Cell → Type 0
 HasRow s entries k row = (frame : ℕ) → claim_rows s entries k frame ≡ row
 
--- what is kept is enough to show a claim: the book is this setup's, and the blocks have all frames of a tick
+-- what is kept is enough to show a claim: the book is this setup's, and the blocks have all frames
+-- of a tick
 pub record CanShow (c : Session) (facts : Facts) : Type 0 where
   pub desk : facts.desk.setup ≡ c.setup
   pub blocks : AreWhole c.setup (set_at facts.blocks.items)
@@ -120,7 +145,8 @@ pub record CanShow (c : Session) (facts : Facts) : Type 0 where
 -- ---- what is kept
 
 -- it tells the same as the events with their answers
-pub record IsReady (s : SetupParts) (workers : ℕ) (taken : List Taken) (facts : Facts) : Type 0 where
+pub record IsReady (s : SetupParts) (workers : ℕ) (taken : List Taken) (facts : Facts)
+    : Type 0 where
   pub desk : facts.desk ≡ desk_parts s (claims_in taken) (journal_in s taken)
   pub sights : facts.sights ≡ map (sight_in s taken) (range_with_len 0 workers)
   pub inputs : length facts.blocks.items ≡ length s.device.inputs

@@ -1,10 +1,9 @@
 //! What a call does to what a core keeps.
 
-ghost use Rattle.std.specs.Prelude.{◌≡◌, ◌<◌, ◌≤◌, ◌+◌, ◌&&◌, ◌++◌, ◌∷◌, [], false, IfOk, IfSome, OnErr, OnOk, length, nat_lt, slice_get, take};
+ghost use Rattle.std.specs.Prelude.{◌≡◌, ◌≤◌, ◌+◌, ◌++◌, ◌∷◌, [], false, IfOk, IfSome, OnErr};
+ghost use Rattle.std.specs.Prelude.{OnOk, length, slice_get, take};
 ghost use Rattle.std.specs.List.{insert};
-ghost use Rattle.std.specs.Option.{option_map_or};
 ghost use Rattle.plain_book.specs.Book.{reply_of};
-ghost use Rattle.plain_book.specs.Desk.{desk_parts};
 ghost use Rattle.plain_book.specs.History.{AreInOrder, comes_before, put, stamp};
 ghost use Rattle.interleavings.specs.Core.{IsCore, desk_after, next_answer, plain_item};
 ghost use Rattle.interleavings.specs.Events.{IsInRange};
@@ -50,8 +49,8 @@ fn comes_before(a: &ReplyItem, b: &ReplyItem) -> bool
                 || (a.stamp.calls == b.stamp.calls && a.client < b.client)))
 }
 
-/// The place of a reply among those in order: behind all that may stand before it. The last ones are
-/// looked at first, since a reply is mostly the last.
+/// The place of a reply among those in order: behind all that may stand before it. The last ones
+/// are looked at first, since a reply is mostly the last.
 fn place(replies: &[ReplyItem], item: &ReplyItem) -> usize
     requires order { AreInOrder replies.now }
     ensures within { result ≤ length replies.now }

@@ -1,8 +1,11 @@
 //! The blocks that were set, by input and tick.
 
-ghost use Rattle.std.specs.Prelude.{◌≡◌, ◌≤◌, ◌<◌, ◌*◌, ◌&&◌, ℕ, None, Some, IfNone, IfOk, IfSome, OnErr, OnOk, eqb, is_some, length, if◌then◌else◌};
-ghost use Rattle.packet_writer.specs.Heard.{channel_samples};
+ghost use Rattle.std.specs.Prelude.{◌≡◌, ◌≤◌, ◌<◌, ◌*◌, ◌&&◌, ℕ, None, Some, refl};
+ghost use Rattle.std.specs.Prelude.{IfNone, IfOk, IfSome, OnErr, OnOk, eqb, is_some, length};
+ghost use Rattle.std.specs.Prelude.{if◌then◌else◌};
+ghost use Rattle.std.proofs.Common.{◌∙◌};
 ghost use Rattle.packet_writer.specs.Packet.{found_block};
+ghost use Rattle.packet_writer.specs.Stays.{IsOnward};
 ghost use Rattle.interleavings.specs.Core.{set_at};
 
 use block_builder::Block;
@@ -100,6 +103,14 @@ fn found_at<'a>(table: &'a [InputBlocks], found: &[bool], tick: u64, input: u8) 
 impl<'a> Samples for FoundBlocks<'a> {
     ghost agrees = { λ s b. (input : ℕ) → b input
         ≡ found_block (set_at s.table.now) s.found.now s.tick input };
+
+    ghost stays = { λ before after. (after.table.now ≡ before.table.now)
+        × (after.found.now ≡ before.found.now) × (after.tick ≡ before.tick) };
+
+    ghost onward = { record {
+      still = λ a. (refl, refl, refl);
+      on = λ a b c f g. (g.0 ∙ f.0, g.1 ∙ f.1, g.2 ∙ f.2);
+    } };
 
     fn copy_channel(
         &mut self,

@@ -1,5 +1,6 @@
-//! The core without a thread: what is drawn, seen, set and asked in a session, in any order, what it is answered, and the history
-//! that it makes. Histories that are legal, and the law that each of these is.
+//! The core without a thread: what is drawn, seen, set and asked in a session, in any order, what
+//! it is answered, and the history that it makes. Histories that are legal, and the law that each
+//! of these is.
 #![tactic(auto)]
 
 mod asking;

@@ -104,8 +104,8 @@ impl Core {
         }
     }
 
-    /// The history of what happened. However the core was stepped, it is legal, with the claims made
-    /// so far and over the blocks that were set; and each row of its calls passes the check.
+    /// The history of what happened. However the core was stepped, it is legal, with the claims
+    /// made so far and over the blocks that were set; and each row of its calls passes the check.
     pub fn history(&self) -> &History
         ensures value { result.now ≡ history_in self.now.setup self.now.taken }
         ensures run { IsRun self.now.setup self.now.ticks self.now.taken }

@@ -1,12 +1,15 @@
 //! A claim, by its row and what its worker saw.
 
-ghost use Rattle.std.specs.Prelude.{◌≡◌, ◌<◌, ◌&&◌, Bool, IfOk, List, ℕ, length, map};
+ghost use Rattle.std.specs.Prelude.{◌≡◌, ◌<◌, ◌&&◌, Bool, IfOk, List, ℕ, length, map, refl};
 ghost use Rattle.std.specs.List.{range_with_len};
+ghost use Rattle.std.proofs.Common.{◌∙◌};
 ghost use Rattle.map_entry.specs.Row.{channels_of_output};
 ghost use Rattle.map_entry.specs.declared.claims.TheConstants.{CLAIMS_LIMIT};
 ghost use Rattle.map_entry.specs.declared.entry.Entry.{Entry};
 ghost use Rattle.packet_writer.specs.Flags.{is_named};
-ghost use Rattle.packet_writer.specs.Packet.{RowFits, flag_of, output_of_claim, packet_by, tick_of_claim};
+ghost use Rattle.packet_writer.specs.Packet.{RowFits, flag_of, output_of_claim, packet_by};
+ghost use Rattle.packet_writer.specs.Packet.{tick_of_claim};
+ghost use Rattle.packet_writer.specs.Stays.{IsOnward};
 ghost use Rattle.interleavings.specs.Core.{AreWhole, CanShow, HasRow, set_at};
 ghost use Rattle.interleavings.specs.Run.{claim_with, seen_flags};
 
@@ -46,6 +49,10 @@ impl<'a> Looks for SeenFlags<'a> {
 
     ghost untold = { λ s input. ⊥ };
 
+    ghost stays = { λ before after. after.flags.now ≡ before.flags.now };
+
+    ghost onward = { record { still = λ a. refl; on = λ a b c f g. g ∙ f } };
+
     fn look(&mut self, input: u8) -> Option<bool> {
         Some(flag(self.flags, input))
     }
@@ -69,9 +76,9 @@ fn mark_seen(setup: &Setup, row: &[Cell], seen: &[bool], flags: &mut [bool])
         ≡ (is_named setup.now.device.rate.frames (λ frame. row.now) i && flag_of seen.now i) }
 {
     mark_named(&OneRow::new(row), setup.device.rate().frames, flags);
-    let told = look_at_marked(&mut SeenFlags { flags: seen }, flags);
+    let untold = look_at_marked(&mut SeenFlags { flags: seen }, flags);
     // What was seen is always told.
-    prove!(told);
+    prove!(untold.is_none());
 }
 
 /// Of which inputs a row names a block that was seen.

@@ -1,12 +1,16 @@
 //! What claims, looks, sets and closings do to what a core keeps.
 
-ghost use Rattle.std.specs.Prelude.{◌≡◌, ◌<◌, ◌++◌, ◌∷◌, [], Some, true, IfOk, OnErr, OnOk, length, slice_get, slice_index_or, slice_set};
+ghost use Rattle.std.specs.Prelude.{◌≡◌, ◌<◌, ◌++◌, ◌∷◌, [], Some, true, IfOk, OnErr, OnOk};
+ghost use Rattle.std.specs.Prelude.{length, slice_get, slice_index_or, slice_set};
 ghost use Rattle.map_entry.specs.declared.claims.TheConstants.{CLAIMS_LIMIT};
 ghost use Rattle.packet_writer.specs.Packet.{flag_of};
 ghost use Rattle.interleavings.specs.Core.{CanShow, IsCore, inherited, next_answer, set_at};
 ghost use Rattle.interleavings.specs.Events.{IsInRange};
 ghost use Rattle.interleavings.specs.Run.{claim_with, seen_flags};
-ghost use Rattle.interleavings.specs.declared.events.Event.TheVariants.{Claim as ByClaim, Look as ByLook, Set as BySet, Close as ByClose};
+ghost use Rattle.interleavings.specs.declared.events.Event.TheVariants.{Claim as ByClaim};
+ghost use Rattle.interleavings.specs.declared.events.Event.TheVariants.{Close as ByClose};
+ghost use Rattle.interleavings.specs.declared.events.Event.TheVariants.{Look as ByLook};
+ghost use Rattle.interleavings.specs.declared.events.Event.TheVariants.{Set as BySet};
 
 use crate::blocks::{has_block, put_block};
 use crate::facts::{Facts, Session, Sight};
@@ -106,7 +110,8 @@ pub(crate) fn look(
 ) -> Result<Answer, NoMemory>
     requires core { IsCore session.now events.now facts.old }
     requires range { IsInRange session.now.setup session.now.workers (ByLook worker input) }
-    ensures answer { IfOk result (λ a. a ≡ next_answer session.now events.now (ByLook worker input)) }
+    ensures answer { IfOk result (λ a. a
+        ≡ next_answer session.now events.now (ByLook worker input)) }
     ensures core { OnOk result
         (IsCore session.now (events.now ++ ByLook worker input ∷ []) facts.new) }
     ensures err { OnErr result (IsCore session.now events.now facts.new) }

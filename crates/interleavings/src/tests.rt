@@ -27,39 +27,45 @@ fn labels(alloc: Global) -> Result<Labels, NoMemory> {
     Ok(made)
 }
 
+fn input(alloc: Global, id: u8) -> Result<Input, NoMemory> {
+    Ok(Input {
+        id: text(alloc, id)?,
+        name: Text::new(alloc),
+        description: Text::new(alloc),
+        labels: labels(alloc)?,
+        width: Width::L16,
+        payload_type: 96,
+        block_size: 1,
+        reordering: true,
+        parent: Parent::Nobody,
+    })
+}
+
 fn inputs(alloc: Global) -> Result<Inputs, NoMemory> {
     let mut made = Inputs::new(alloc);
-    for id in [b'a', b'b'] {
-        made.push(Input {
-            id: text(alloc, id)?,
-            name: Text::new(alloc),
-            description: Text::new(alloc),
-            labels: labels(alloc)?,
-            width: Width::L16,
-            payload_type: 96,
-            block_size: 1,
-            reordering: true,
-            parent: Parent::Nobody,
-        })?;
-    }
+    made.push(input(alloc, b'a')?)?;
+    made.push(input(alloc, b'b')?)?;
     Ok(made)
+}
+
+fn output(alloc: Global, id: u8, width: Width, kind: u8, ssrc: u32) -> Result<Output, NoMemory> {
+    Ok(Output {
+        id: text(alloc, id)?,
+        name: Text::new(alloc),
+        description: Text::new(alloc),
+        labels: labels(alloc)?,
+        width,
+        payload_type: kind,
+        ssrc,
+        source_id: None,
+        routable: Routable::All,
+    })
 }
 
 fn outputs(alloc: Global) -> Result<Outputs, NoMemory> {
     let mut made = Outputs::new(alloc);
-    for (id, width, payload_type, ssrc) in [(b'x', Width::L16, 96, 1), (b'y', Width::L24, 97, 2)] {
-        made.push(Output {
-            id: text(alloc, id)?,
-            name: Text::new(alloc),
-            description: Text::new(alloc),
-            labels: labels(alloc)?,
-            width,
-            payload_type,
-            ssrc,
-            source_id: None,
-            routable: Routable::All,
-        })?;
-    }
+    made.push(output(alloc, b'x', Width::L16, 96, 1)?)?;
+    made.push(output(alloc, b'y', Width::L24, 97, 2)?)?;
     Ok(made)
 }
 
@@ -138,8 +144,8 @@ fn claims(events: &mut Events, count: usize) -> Result<(), NoMemory> {
     Ok(())
 }
 
-/// Three claims, an activation of both outputs at once, and three more, of which the last two are of
-/// a tick whose block is there.
+/// Three claims, an activation of both outputs at once, and three more, of which the last two are
+/// of a tick whose block is there.
 fn worked(alloc: Global) -> Result<Events, Fail> {
     let mut events = Events::new(alloc);
     let samples = [0x111100, 0x222200, 0x333300, 0x444400];
@@ -302,15 +308,15 @@ fn draw_event(alloc: Global, draws: &mut Draws) -> Result<Event, Fail> {
     })
 }
 
-/// A number for a list of numbers.
+/// A number for a list of numbers. The model takes its remainder by 2^32 at each step.
 #[derive(Drop)]
 struct Total {
-    value: u32,
+    value: u64,
 }
 
 impl Total {
     fn add(&mut self, number: u64) {
-        self.value = self.value.wrapping_mul(31).wrapping_add(number as u32);
+        self.value = self.value.wrapping_mul(31).wrapping_add(number);
     }
 
     fn add_bytes(&mut self, bytes: &[u8]) {
@@ -432,7 +438,7 @@ fn add_history(total: &mut Total, history: &History) {
 }
 
 /// The number of a drawn list of events.
-fn number_of(alloc: Global, setup: &Setup, seed: u64) -> Result<u32, Fail> {
+fn number_of(alloc: Global, setup: &Setup, seed: u64) -> Result<u64, Fail> {
     let mut draws = Draws { state: seed };
     let mut total = Total { value: 0 };
     let mut core = Core::new(alloc, setup, 4, 3)?;
@@ -445,7 +451,7 @@ fn number_of(alloc: Global, setup: &Setup, seed: u64) -> Result<u32, Fail> {
         add_answer(&mut total, &answer);
     }
     add_history(&mut total, core.history());
-    Ok(total.value)
+    Ok(total.value % (1 << 32))
 }
 
 #[test]
@@ -454,7 +460,7 @@ fn lists_come_to_the_numbers_of_the_model(rt: HostRuntime) -> Result<(), Fail> {
     let setup = setup(alloc, 5, [[from(0, 0), from(1, 1)], [OFF, from(0, 1)]])?;
     for (seed, wanted) in NUMBERS.into_iter().enumerate() {
         let number = number_of(alloc, &setup, seed as u64)?;
-        assert!(&rt; number == wanted);
+        assert!(&rt; number == u64::from(wanted));
     }
     Ok(())
 }

@@ -25,10 +25,12 @@ replies_at replies claims = filter (λ r. eqb r.stamp.claims claims) replies
 abbrev pub claims_at : List ClaimItem → ℕ → List ClaimItem
 claims_at all number = option_map_or (λ claim. claim ∷ []) (slice_get all number) []
 
--- the records at a number of claims: the calls accepted then, in the journal's order, the replies, in the history's, and the claim
+-- the records at a number of claims: the calls accepted then, in the journal's order, the replies,
+-- in the history's, and the claim
 abbrev pub records_at : History → ℕ → List HistoryRecord
 records_at h claims =
-    map OfCall (calls_at h.journal claims) ++ (map OfReply (replies_at h.replies claims) ++ map OfClaim (claims_at h.claims claims))
+    map OfCall (calls_at h.journal claims)
+    ++ (map OfReply (replies_at h.replies claims) ++ map OfClaim (claims_at h.claims claims))
 
 -- the records of a history at each number of claims from none to this one
 abbrev pub records_of : History → ℕ → List HistoryRecord
