@@ -24,7 +24,7 @@ use Rattle.plain_book.proofs.Lists.{all_append}
 use Rattle.plain_book.proofs.Prefixes.{no_calls}
 use Rattle.plain_book.proofs.Waiting.{HasOutputs}
 use Rattle.interleavings.specs.Facts.{AreLaps, Gathering, IsSession, Lap, form_by, given_in_all, given_in_laps, history_by_given, items_in_laps, items_of}
-use Rattle.interleavings.specs.Legal.{AreClaims, IsClaim, IsLegalHistory, asks_itself, first_floor, says_reply}
+use Rattle.interleavings.specs.Legal.{AreClaims, IsClaim, IsLegalHistory, StandsThere, asks_itself, first_floor, says_reply}
 use Rattle.interleavings.specs.Told.{AreSaid, given_to, requests_of}
 use Rattle.interleavings.proofs.FoundRows.{IsWithLater}
 use Rattle.interleavings.proofs.Lapped.{AreItems, IsClaimed, lap_items}
@@ -131,7 +131,7 @@ session_claims s g blocks m asks laps late last claims some is moved rises =
 -- the claims in the order of their numbers, the calls, and the replies in order
 pub session_legal : (s : SetupParts) (g : Gathering) (blocks : Blocks) (m : ℕ) (asks : ℕ → List Request) (laps : List Lap) (late : List Given) (last : List JournalCall) (claims : List ClaimItem) → HasOutputs s → IsSession s g blocks m asks laps late last
     → IsPermutation (items_in_laps laps) claims → IsNonDecreasingBy (λ c. c.k) claims
-    → IsLegalHistory s asks_itself says_reply m blocks (form_by s g (entries_of s last) blocks) asks (history_by_given claims (given_in_all laps late) last)
+    → IsLegalHistory s asks_itself says_reply StandsThere m blocks (form_by s g (entries_of s last) blocks) asks (history_by_given claims (given_in_all laps late) last)
 session_legal s g blocks m asks laps late last claims some is moved rises = record {
   journal = session_journal s g blocks m asks laps late last is;
   claimed = session_claims s g blocks m asks laps late last claims some is moved rises;
@@ -142,7 +142,7 @@ session_legal s g blocks m asks laps late last claims some is moved rises = reco
 pub session_told : {A : Type 0} (s : SetupParts) (asked : A → Option Request) (says : A → Option Reply → Option Said) (g : Gathering) (blocks : Blocks) (m : ℕ) (requests : ℕ → List Request) (asks : ℕ → List A) (laps : List Lap) (late : List Given)
     (last : List JournalCall) (claims : List ClaimItem) (items : List ReplyItem) → HasOutputs s → IsSession s g blocks m requests laps late last → IsPermutation (items_in_laps laps) claims → IsNonDecreasingBy (λ c. c.k) claims
     → ((client : ℕ) → AreSaid asked says first_floor (asks client) (given_to client (given_in_all laps late)) (replies_to client items)) → AreInOrder items
-    → IsLegalHistory s asked says m blocks (form_by s g (entries_of s last) blocks) asks (history_of claims last items)
+    → IsLegalHistory s asked says StandsThere m blocks (form_by s g (entries_of s last) blocks) asks (history_of claims last items)
 session_told s asked says g blocks m requests asks laps late last claims items some is moved rises said order = record {
   journal = session_journal s g blocks m requests laps late last is;
   claimed = session_claims s g blocks m requests laps late last claims some is moved rises;

@@ -17,7 +17,7 @@ use Rattle.plain_book.specs.History.{AreInOrder, replies_to}
 use Rattle.plain_book.proofs.Giving.{given_up}
 use Rattle.plain_book.proofs.Ordering.{in_order_keeps}
 use Rattle.plain_book.proofs.Prefixes.{no_calls}
-use Rattle.interleavings.specs.Legal.{AreReplies, AreTold, IsAskedReply, IsPlace, IsReplyTo, accepted_at, accepts, asks_itself, calls_made, first_floor, next_floor, reply_at, says_reply}
+use Rattle.interleavings.specs.Legal.{AreReplies, AreTold, IsAskedReply, IsPlace, IsReplyTo, StandsThere, accepted_at, accepts, asks_itself, calls_made, first_floor, next_floor, reply_at, says_reply}
 use Rattle.interleavings.specs.Told.{AreSaid, IsSaidBy, IsSaidFor, given_to, requests_of}
 use Rattle.interleavings.proofs.Places.{GoFrom, IsAnswerAt, answers_at, go_from, is_maker, makers, one_maker}
 
@@ -27,7 +27,7 @@ use Rattle.interleavings.proofs.Places.{GoFrom, IsAnswerAt, answers_at, go_from,
 abbrev RestTold : {A : Type 0} → SetupParts → (A → Option Request) → (A → Option Reply → Option Said) → List JournalCall → ℕ → ℕ → List A → Type 0
 RestTold s asked says journal claims client asks =
     (floor : Stamp) (gs : List Given) (items : List ReplyItem) → AllByRecursion (IsAnswerAt s journal claims) gs → AllByRecursion (λ g. g.client ≡ client) gs → GoFrom floor gs
-    → AreSaid asked says floor asks gs items → AreTold s asked says journal claims client floor asks items
+    → AreSaid asked says floor asks gs items → AreTold s asked says StandsThere journal claims client floor asks items
 
 same_reply : (s : SetupParts) (journal : List JournalCall) (claims : ℕ) (say : Option Reply → Option Said) (request : Request) (g : Given) (item : ReplyItem) → IsAnswerAt s journal claims g → IsSaidFor say request g item
     → reply_at s journal item.stamp request ≡ g.reply
@@ -59,16 +59,16 @@ one_told : {A : Type 0} (s : SetupParts) (asked : A → Option Request) (says : 
     → RestTold s asked says journal claims client asks → (floor : Stamp) (gs : List Given) (item : ReplyItem) (items : List ReplyItem)
     → AllByRecursion (IsAnswerAt s journal claims) gs → AllByRecursion (λ g. g.client ≡ client) gs → GoFrom floor gs
     → IsSaidBy floor say o gs item (λ next rest. AreSaid asked says next asks rest items)
-    → IsReplyTo s journal claims client floor say o item × AreTold s asked says journal claims client (next_floor item.stamp (accepted_at s journal item.stamp o)) asks items
+    → IsReplyTo s StandsThere journal claims client floor say o item × AreTold s asked says StandsThere journal claims client (next_floor item.stamp (accepted_at s journal item.stamp o)) asks items
 one_told s asked says journal claims client asks say None rest floor gs item items at own from said =
-    (said.0, subst (λ (next : Stamp). AreTold s asked says journal claims client next asks items) (sym said.0.stamp_is) (rest floor gs items at own from said.1))
+    (said.0, subst (λ (next : Stamp). AreTold s asked says StandsThere journal claims client next asks items) (sym said.0.stands) (rest floor gs items at own from said.1))
 one_told s asked says journal claims client asks say (Some request) rest floor [] item items at own from said = absurd said
 one_told s asked says journal claims client asks say (Some request) rest floor (g ∷ gs) item items at own from said =
     let next : next_floor g.stamp (accepts g.reply) ≡ next_floor item.stamp (accepts (reply_at s journal item.stamp request)) =
     sym (ap (λ (place : Stamp). next_floor place (accepts (reply_at s journal item.stamp request))) said.0.stamp_is
     ∙ ap (λ (reply : Reply). next_floor g.stamp (accepts reply)) (same_reply s journal claims say request g item at.0 said.0)) in (
       asked_told s journal claims client floor say request g item at.0 own.0 from.0 said.0,
-      subst (λ (place : Stamp). AreTold s asked says journal claims client place asks items) next (rest (next_floor g.stamp (accepts g.reply)) gs items at.1 own.1 from.1 said.1),
+      subst (λ (place : Stamp). AreTold s asked says StandsThere journal claims client place asks items) next (rest (next_floor g.stamp (accepts g.reply)) gs items at.1 own.1 from.1 said.1),
     )
 
 all_told : {A : Type 0} (s : SetupParts) (asked : A → Option Request) (says : A → Option Reply → Option Said) (journal : List JournalCall) (claims client : ℕ) (asks : List A) → RestTold s asked says journal claims client asks
@@ -129,7 +129,7 @@ owned client (g ∷ gs) = elim (cases_Bool (eqb g.client client)) [
 -- what is said to each client's asks by a book's answers, in the order of a history, are legal replies
 pub told_replies : {A : Type 0} (s : SetupParts) (asked : A → Option Request) (says : A → Option Reply → Option Said) (journal : List JournalCall) (claims : ℕ) (asks : ℕ → List A) (given : List Given) (items : List ReplyItem)
     → AreGiven s [] 0 given journal claims → ((client : ℕ) → AreSaid asked says first_floor (asks client) (given_to client given) (replies_to client items)) → AreInOrder items
-    → AreReplies s asked says journal claims asks items
+    → AreReplies s asked says StandsThere journal claims asks items
 told_replies s asked says journal claims asks given items are said order =
     let at = answers_at s [] 0 given journal claims (no_calls s 0) are in
     record {
@@ -156,7 +156,7 @@ replies_given_to client (g ∷ gs) = elim (cases_Bool (eqb g.client client)) [
 
 -- the book's answers in the order of a history are legal replies to plain requests
 pub plain_replies : (s : SetupParts) (journal : List JournalCall) (claims : ℕ) (asks : ℕ → List Request) (given : List Given)
-    → AreGiven s [] 0 given journal claims → ((client : ℕ) → requests_of given client ≡ asks client) → AreReplies s asks_itself says_reply journal claims asks (replies_of given)
+    → AreGiven s [] 0 given journal claims → ((client : ℕ) → requests_of given client ≡ asks client) → AreReplies s asks_itself says_reply StandsThere journal claims asks (replies_of given)
 plain_replies s journal claims asks given are whole =
     let sorted = in_order_keeps (map given_reply given) (given_up s [] 0 given journal claims are).1 in
     told_replies s asks_itself says_reply journal claims asks given (replies_of given) are

@@ -23,7 +23,7 @@ use Rattle.plain_book.proofs.Giving.{given_legal}
 use Rattle.plain_book.proofs.Prefixes.{no_calls}
 use Rattle.interleavings.specs.declared.events.Taken.{Taken}
 use Rattle.interleavings.specs.Events.{IsRun, block_in, claims_in, journal_in}
-use Rattle.interleavings.specs.Legal.{AreClaims, Form, IsClaim, IsFreeHistory, IsLegalHistory, asks_itself, closed_form, free_form, says_reply}
+use Rattle.interleavings.specs.Legal.{AreClaims, Form, IsClaim, IsFreeHistory, IsLegalHistory, Standing, StandsThere, asks_itself, closed_form, free_form, says_reply}
 use Rattle.interleavings.specs.Run.{asks_in, claim_in, has_seen, history_in, replies_given}
 use Rattle.interleavings.specs.Told.{requests_of}
 use Rattle.interleavings.proofs.Answering.{asks_are, given_in, replies_are, run_given}
@@ -46,9 +46,9 @@ claims_legal s journal blocks Allows f claims is = record {
 -- claims that are legal, and the answers of a book in order, are a legal history
 pub given_history : (s : SetupParts) (claims : ℕ) (blocks : Blocks) (Allows : Form) (asks : ℕ → List Request) (given : List Given) (journal : List JournalCall) (items : List ClaimItem) (replies : List ReplyItem)
     → AreGiven s [] 0 given journal claims → ((client : ℕ) → requests_of given client ≡ asks client) → map given_reply given ≡ replies
-    → AreClaims s journal blocks Allows claims items → IsLegalHistory s asks_itself says_reply claims blocks Allows asks (history_of items journal (in_order replies))
+    → AreClaims s journal blocks Allows claims items → IsLegalHistory s asks_itself says_reply StandsThere claims blocks Allows asks (history_of items journal (in_order replies))
 given_history s claims blocks Allows asks given journal items replies are whole said claimed =
-    subst (λ (rs : List ReplyItem). IsLegalHistory s asks_itself says_reply claims blocks Allows asks (history_of items journal (in_order rs))) said
+    subst (λ (rs : List ReplyItem). IsLegalHistory s asks_itself says_reply StandsThere claims blocks Allows asks (history_of items journal (in_order rs))) said
     (record {
       journal = given_legal s [] 0 given journal claims (no_calls s 0) are;
       claimed = claimed;
@@ -68,9 +68,9 @@ run_legal s ticks events run =
 
 -- ---- one form of flags in place of another
 
-pub other_form : {A : Type 0} (s : SetupParts) (asked : A → Option Request) (says : A → Option Reply → Option Said) (claims : ℕ) (blocks : Blocks) (Allows Others : Form) (asks : ℕ → List A) (h : History)
-    → ((k : ℕ) (claim : ClaimItem) → Allows k claim.found → Others k claim.found) → IsLegalHistory s asked says claims blocks Allows asks h → IsLegalHistory s asked says claims blocks Others asks h
-other_form s asked says claims blocks Allows Others asks h weaker is = record {
+pub other_form : {A : Type 0} (s : SetupParts) (asked : A → Option Request) (says : A → Option Reply → Option Said) (Stands : Standing) (claims : ℕ) (blocks : Blocks) (Allows Others : Form) (asks : ℕ → List A) (h : History)
+    → ((k : ℕ) (claim : ClaimItem) → Allows k claim.found → Others k claim.found) → IsLegalHistory s asked says Stands claims blocks Allows asks h → IsLegalHistory s asked says Stands claims blocks Others asks h
+other_form s asked says Stands claims blocks Allows Others asks h weaker is = record {
   journal = is.journal;
   claimed = record {
     all = is.claimed.all;
@@ -82,9 +82,9 @@ other_form s asked says claims blocks Allows Others asks h weaker is = record {
 }
 
 -- a history that is legal in closed form is legal in free form, whatever of the blocks was seen
-pub closed_free : {A : Type 0} (s : SetupParts) (asked : A → Option Request) (says : A → Option Reply → Option Said) (claims : ℕ) (blocks : Blocks) (seen : Sights) (asks : ℕ → List A) (h : History)
-    → ((k input : ℕ) → seen k input ≡ true → is_there s blocks k input ≡ true) → IsLegalHistory s asked says claims blocks (closed_form s h.journal blocks) asks h
-    → IsLegalHistory s asked says claims blocks (free_form s h.journal blocks seen) asks h
-closed_free s asked says claims blocks seen asks h there is =
-    other_form s asked says claims blocks (closed_form s h.journal blocks) (free_form s h.journal blocks seen) asks h
+pub closed_free : {A : Type 0} (s : SetupParts) (asked : A → Option Request) (says : A → Option Reply → Option Said) (Stands : Standing) (claims : ℕ) (blocks : Blocks) (seen : Sights) (asks : ℕ → List A) (h : History)
+    → ((k input : ℕ) → seen k input ≡ true → is_there s blocks k input ≡ true) → IsLegalHistory s asked says Stands claims blocks (closed_form s h.journal blocks) asks h
+    → IsLegalHistory s asked says Stands claims blocks (free_form s h.journal blocks seen) asks h
+closed_free s asked says Stands claims blocks seen asks h there is =
+    other_form s asked says Stands claims blocks (closed_form s h.journal blocks) (free_form s h.journal blocks seen) asks h
     (λ k claim flags. closed_are_free s seen (entries_of s h.journal) blocks k claim.found (λ input lt is. there k input is) flags) is

@@ -1,5 +1,8 @@
--- What a list of events with their answers tells, and what one more event is answered behind it. (This project's own.)
-use Rattle.std.specs.Prelude.{◌≡◌, ℕ, ◌*◌, ◌&&◌, eqb, nat_lt, Bool, true, false, List, [], ◌∷◌, ◌++◌, length, Option, Some, None, ◌<◌, is_some, if◌then◌else◌, count_by, take, slice_get, ℤ, All}
+-- What a list of events with their answers tells, and what one more event is answered behind it.
+-- (This project's own.)
+use Rattle.std.specs.Prelude.{◌≡◌, ℕ, ◌*◌, ◌&&◌, eqb, nat_lt, Bool, true, false, List, [], ◌∷◌}
+use Rattle.std.specs.Prelude.{◌++◌, length, Option, Some, None, ◌<◌, is_some, if◌then◌else◌}
+use Rattle.std.specs.Prelude.{count_by, take, slice_get, ℤ, All}
 use Rattle.std.specs.List.{list_any}
 use Rattle.std.specs.Option.{option_or, option_to_list}
 use Rattle.rtp_pcm.specs.Pcm.{IsSample}
@@ -13,7 +16,9 @@ use Rattle.plain_book.specs.Time.{tick_of_claim}
 use Rattle.interleavings.specs.declared.events.Event.{Event}
 use Rattle.interleavings.specs.declared.events.Event.TheVariants.{Claim, Look, Set, Close, Call}
 use Rattle.interleavings.specs.declared.events.Answer.{Answer}
-use Rattle.interleavings.specs.declared.events.Answer.TheVariants.{Claimed, Over, Seen, Nothing, Done, AlreadySet, Closed, Replied}
+use Rattle.interleavings.specs.declared.events.Answer.TheVariants.{Claimed, Over, Seen, Nothing}
+use Rattle.interleavings.specs.declared.events.Answer.TheVariants.{Done, AlreadySet, Closed}
+use Rattle.interleavings.specs.declared.events.Answer.TheVariants.{Replied}
 use Rattle.interleavings.specs.declared.events.Taken.{Taken}
 
 -- an event with its answer
@@ -77,7 +82,8 @@ block_by input tick (Call client request) = None
 
 -- the block of an input at a tick: the one to which a set that was done set it
 abbrev pub block_in : List Taken → ℕ → ℕ → Option (List ℤ)
-block_in events input tick = first_some (λ t. if is_done t.answer then block_by input tick t.event else None) events
+block_in events input tick =
+    first_some (λ t. if is_done t.answer then block_by input tick t.event else None) events
 
 -- whether an event closes an input's tick: all ticks below its number are closed
 abbrev pub closes : ℕ → ℕ → Event → Bool
@@ -102,7 +108,8 @@ call_by s journal client request Nothing = None
 call_by s journal client request Done = None
 call_by s journal client request AlreadySet = None
 call_by s journal client request Closed = None
-call_by s journal client request (Replied reply stamp) = call_of s journal client stamp.claims request reply
+call_by s journal client request (Replied reply stamp) =
+    call_of s journal client stamp.claims request reply
 
 -- the call that an event became by its answer, behind a journal, where it became one
 abbrev pub call_in : SetupParts → List JournalCall → Event → Answer → Option JournalCall
@@ -115,7 +122,8 @@ call_in s journal (Call client request) answer = call_by s journal client reques
 -- a journal, and the calls that were accepted behind it
 abbrev pub journal_from : SetupParts → List JournalCall → List Taken → List JournalCall
 journal_from s journal [] = journal
-journal_from s journal (t ∷ events) = journal_from s (journal ++ option_to_list (call_in s journal t.event t.answer)) events
+journal_from s journal (t ∷ events) =
+    journal_from s (journal ++ option_to_list (call_in s journal t.event t.answer)) events
 
 -- the calls that were accepted, in order
 abbrev pub journal_in : SetupParts → List Taken → List JournalCall
@@ -123,22 +131,29 @@ journal_in s events = journal_from s [] events
 
 -- ---- answers
 
--- what a look is answered by the worker's latest claim: whether the block of the input is there at its tick
+-- what a look is answered by the worker's latest claim: whether the block of the input is there at
+-- its tick
 abbrev pub look_answer : SetupParts → List Taken → ℕ → Option ℕ → Answer
 look_answer s events input None = Nothing
 look_answer s events input (Some k) = Seen (is_some (block_in events input (tick_of_claim s k)))
 
--- What an event is answered behind these, in a session of so many ticks. A claim: how many were made before, or `Over` where all
--- packets are claimed. A look: whether the block is there, or `Nothing` where the worker has no claim. A set: `AlreadySet` where
--- the block is there, else `Closed` where the tick is closed. A call: the one-thread book's reply at the calls and claims so far.
+-- What an event is answered behind these, in a session of so many ticks. A claim: how many were
+-- made before, or `Over` where all packets are claimed. A look: whether the block is there, or
+-- `Nothing` where the worker has no claim. A set: `AlreadySet` where the block is there, else
+-- `Closed` where the tick is closed. A call: the one-thread book's reply at the calls and claims so
+-- far.
 abbrev pub answer_of : SetupParts → ℕ → List Taken → Event → Answer
-answer_of s ticks events (Claim worker) = if nat_lt (claims_in events) (ticks * length s.device.outputs) then Claimed (claims_in events) else Over
+answer_of s ticks events (Claim worker) =
+    if nat_lt (claims_in events) (ticks * length s.device.outputs) then Claimed (claims_in events)
+    else Over
 answer_of s ticks events (Look worker input) = look_answer s events input (latest_of worker events)
 answer_of s ticks events (Set input tick block) =
-    if is_some (block_in events input tick) then AlreadySet else (if is_closed events input tick then Closed else Done)
+    if is_some (block_in events input tick) then AlreadySet
+    else (if is_closed events input tick then Closed else Done)
 answer_of s ticks events (Close input upto) = Done
 answer_of s ticks events (Call client request) =
-    Replied (reply_of s (journal_in s events) (claims_in events) request) (stamp (length (journal_in s events)) (claims_in events))
+    Replied (reply_of s (journal_in s events) (claims_in events) request)
+    (stamp (length (journal_in s events)) (claims_in events))
 
 -- an event with the answer that it is given behind these
 abbrev pub taken_by : SetupParts → ℕ → List Taken → Event → Taken
@@ -146,12 +161,15 @@ taken_by s ticks events event = taken event (answer_of s ticks events event)
 
 -- each event has the answer that it is given behind those before it
 abbrev pub IsRun : SetupParts → ℕ → List Taken → Type 0
-IsRun s ticks events = (k : ℕ) (t : Taken) → slice_get events k ≡ Some t → t.answer ≡ answer_of s ticks (take k events) t.event
+IsRun s ticks events =
+    (k : ℕ) (t : Taken) → slice_get events k ≡ Some t
+    → t.answer ≡ answer_of s ticks (take k events) t.event
 
 -- these, and further events, each with the answer that it is given behind those before it
 abbrev pub run_from : SetupParts → ℕ → List Taken → List Event → List Taken
 run_from s ticks before [] = before
-run_from s ticks before (event ∷ events) = run_from s ticks (before ++ taken_by s ticks before event ∷ []) events
+run_from s ticks before (event ∷ events) =
+    run_from s ticks (before ++ taken_by s ticks before event ∷ []) events
 
 -- the run of these events
 unfoldable pub run_of : SetupParts → ℕ → List Event → List Taken
@@ -168,6 +186,7 @@ pub record HasShape (s : SetupParts) (input : ℕ) (block : List ℤ) : Type 0 w
 abbrev pub IsInRange : SetupParts → ℕ → Event → Type 0
 IsInRange s workers (Claim worker) = (worker < workers)
 IsInRange s workers (Look worker input) = (worker < workers) × (input < length s.device.inputs)
-IsInRange s workers (Set input tick block) = (input < length s.device.inputs) × HasShape s input block
+IsInRange s workers (Set input tick block) =
+    (input < length s.device.inputs) × HasShape s input block
 IsInRange s workers (Close input upto) = (input < length s.device.inputs)
 IsInRange s workers (Call client request) = Unit {0}

@@ -1,6 +1,9 @@
--- What running tables and their book leave once every job is back: facts on plain values, each told by single calls or kept by a
--- job. A session on tables that go on one behind the other, in laps, has one lap or more. (This project's own.)
-use Rattle.std.specs.Prelude.{◌≡◌, ℕ, ◌+◌, ◌*◌, ◌<◌, ◌≤◌, ◌==◌, nat_le, nat_lt, cond, Bool, true, false, List, [], ◌∷◌, ◌++◌, length, filter, sum_by, All, Option, None, IfSome, is_some, ℤ}
+-- What running tables and their book leave once every job is back: facts on plain values, each told
+-- by single calls or kept by a job. A session on tables that go on one behind the other, in laps,
+-- has one lap or more. (This project's own.)
+use Rattle.std.specs.Prelude.{◌≡◌, ℕ, ◌+◌, ◌*◌, ◌<◌, ◌≤◌, ◌==◌, nat_le, nat_lt, cond, Bool, true}
+use Rattle.std.specs.Prelude.{false, List, [], ◌∷◌, ◌++◌, length, filter, sum_by, All, Option, None}
+use Rattle.std.specs.Prelude.{IfSome, is_some, ℤ}
 use Rattle.std.specs.List.{AllZip}
 use Rattle.io_caps.specs.declared.device.DeviceParts.{DeviceParts}
 use Rattle.map_entry.specs.declared.entry.Entry.{Entry}
@@ -20,12 +23,14 @@ use Rattle.plain_book.specs.Given.{AreGiven, replies_of}
 use Rattle.plain_book.specs.History.{history_of, replies_to}
 use Rattle.plain_book.specs.Journal.{entries_of}
 use Rattle.plain_book.specs.Rows.{SelectsAlike}
-use Rattle.interleavings.specs.Legal.{Form, IsLegalHistory, asks_itself, first_floor, says_reply}
+use Rattle.interleavings.specs.Legal.{Form, IsLegalHistory, StandsThere, asks_itself, first_floor}
+use Rattle.interleavings.specs.Legal.{says_reply}
 use Rattle.interleavings.specs.Told.{AreSaid, Ask, given_to, requests_of}
 
 -- ---- two ways to gather
 
--- How workers gather packets: in closed form, by looks at closed ticks; or in free form, by what was seen when they looked.
+-- How workers gather packets: in closed form, by looks at closed ticks; or in free form, by what
+-- was seen when they looked.
 pub data Gathering : Type 0 where
   GatherClosed : Gathering
   GatherFree : Sights → Gathering
@@ -35,8 +40,8 @@ abbrev pub form_by : SetupParts → Gathering → List Entry → Blocks → Form
 form_by s GatherClosed entries blocks = AreClosed s entries blocks
 form_by s (GatherFree seen) entries blocks = AreFree s seen entries blocks
 
--- What a way asks of a block that was set, beside the input's: to be the same, and none where the input has none; in free form
--- only where one was set.
+-- What a way asks of a block that was set, beside the input's: to be the same, and none where the
+-- input has none; in free form only where one was set.
 abbrev pub IsFedAs : Gathering → Option (List ℤ) → Option (List ℤ) → Type 0
 IsFedAs GatherClosed set block = set ≡ block
 IsFedAs (GatherFree seen) set block = is_some set ≡ true → set ≡ block
@@ -48,7 +53,8 @@ pub record Draw : Type 0 where
   pub number : ℕ
   pub found : List Entry
 
--- behind the entries that a draw found, the table's list has entries that count from ticks behind that of the draw alone
+-- behind the entries that a draw found, the table's list has entries that count from ticks behind
+-- that of the draw alone
 pub record IsGood (s : SetupParts) (from packets : ℕ) (list : List Entry) (d : Draw) : Type 0 where
   pub rest : List Entry
   pub front : list ≡ d.found ++ rest
@@ -66,9 +72,11 @@ times number draws = sum_by (is_at number) draws
 abbrev pub once_below : ℕ → ℕ → ℕ
 once_below number bound = cond (nat_le bound number) 0 1
 
--- All draws on a table whose list is this one, whose first claim is `from` and which is for so many packets: each is good, each
--- number below those drawn stands once among them, and no other; and every packet was drawn.
-pub record IsEnded (s : SetupParts) (from packets : ℕ) (list : List Entry) (draws : List Draw) : Type 0 where
+-- All draws on a table whose list is this one, whose first claim is `from` and which is for so many
+-- packets: each is good, each number below those drawn stands once among them, and no other; and
+-- every packet was drawn.
+pub record IsEnded (s : SetupParts) (from packets : ℕ) (list : List Entry) (draws : List Draw)
+    : Type 0 where
   pub drawn : ℕ
   pub good : All (IsGood s from packets list) draws
   pub once : (number : ℕ) → times number draws ≡ once_below number drawn
@@ -90,18 +98,24 @@ pub record Heard : Type 0 where
   pub place : ℕ
   pub value : ℤ
 
--- Blocks agree with what was seen: a block that was seen is there; one that was missed after a closing number above its tick is
--- not; the samples that were read are those of the block; and a block that is there has the shape of its input.
-pub record Agrees (d : DeviceParts) (looks : List Look) (heard : List Heard) (blocks : Blocks) : Type 0 where
+-- Blocks agree with what was seen: a block that was seen is there; one that was missed after a
+-- closing number above its tick is not; the samples that were read are those of the block; and a
+-- block that is there has the shape of its input.
+pub record Agrees (d : DeviceParts) (looks : List Look) (heard : List Heard) (blocks : Blocks)
+    : Type 0 where
   pub seen : All (λ l. l.present ≡ true → is_some (blocks l.input l.tick) ≡ true) looks
   pub missed : All (λ l. l.present ≡ false → l.tick < l.closed → blocks l.input l.tick ≡ None) looks
   pub read : All (λ h. sample_in (blocks h.input h.tick) h.place ≡ h.value) heard
-  pub shape : (input tick : ℕ) → input < length d.inputs → IfSome (blocks input tick) (λ samples. length samples ≡ d.rate.frames * channels_of d.inputs input)
+  pub shape : (input tick : ℕ) → input < length d.inputs
+      → IfSome (blocks input tick)
+      (λ samples. length samples ≡ d.rate.frames * channels_of d.inputs input)
 
--- At so many ticks from a first one on, the blocks that were set are the inputs' as the way to gather asks.
+-- At so many ticks from a first one on, the blocks that were set are the inputs' as the way to
+-- gather asks.
 abbrev pub IsFed : SetupParts → Gathering → ℕ → ℕ → Blocks → Blocks → Type 0
 IsFed s g first ticks set blocks =
-    (input tick : ℕ) → input < length s.device.inputs → first ≤ tick → tick < first + ticks → IsFedAs g (set input tick) (blocks input tick)
+    (input tick : ℕ) → input < length s.device.inputs → first ≤ tick → tick < first + ticks
+    → IsFedAs g (set input tick) (blocks input tick)
 
 -- ---- what a worker made
 
@@ -122,8 +136,10 @@ abbrev pub items_of : List Made → List ClaimItem
 items_of [] = []
 items_of (w ∷ ws) = w.items ++ items_of ws
 
--- the claim of a draw, by the entries that it found and over blocks: its number, flags that the way allows, and its packet
-pub record IsItem (s : SetupParts) (g : Gathering) (blocks : Blocks) (from : ℕ) (d : Draw) (item : ClaimItem) : Type 0 where
+-- the claim of a draw, by the entries that it found and over blocks: its number, flags that the way
+-- allows, and its packet
+pub record IsItem (s : SetupParts) (g : Gathering) (blocks : Blocks) (from : ℕ) (d : Draw)
+    (item : ClaimItem) : Type 0 where
   pub number : item.k ≡ from + d.number
   pub flags : form_by s g d.found blocks item.k item.found
   pub packet : item.packet ≡ packet_by s d.found blocks item.found item.k
@@ -132,15 +148,18 @@ pub record IsItem (s : SetupParts) (g : Gathering) (blocks : Blocks) (from : ℕ
 abbrev pub is_packet : ℕ → Draw → Bool
 is_packet packets d = nat_lt d.number packets
 
--- the claims of those draws that are packets, in order, over any blocks that agree with what the worker saw
+-- the claims of those draws that are packets, in order, over any blocks that agree with what the
+-- worker saw
 abbrev pub IsWorked : SetupParts → Gathering → ℕ → ℕ → Made → Type 0
 IsWorked s g from packets w =
-    (blocks : Blocks) → Agrees s.device w.looks w.heard blocks → AllZip (IsItem s g blocks from) (filter (is_packet packets) w.draws) w.items
+    (blocks : Blocks) → Agrees s.device w.looks w.heard blocks
+    → AllZip (IsItem s g blocks from) (filter (is_packet packets) w.draws) w.items
 
 -- ---- laps
 
--- What a lap leaves: how many ticks lie before it, how many its tables have, how many claims were made in it, what the book
--- answered in it, the whole journal at its end, and what its workers made.
+-- What a lap leaves: how many ticks lie before it, how many its tables have, how many claims were
+-- made in it, what the book answered in it, the whole journal at its end, and what its workers
+-- made.
 pub record Lap : Type 0 where
   pub before : ℕ
   pub ticks : ℕ
@@ -153,9 +172,9 @@ pub record Lap : Type 0 where
 abbrev pub first_claim : SetupParts → Lap → ℕ
 first_claim s l = l.before * length s.device.outputs
 
--- A lap on its tables: as many of its packets were claimed as claims were made, all or, where it ends early, fewer. The list of
--- the table of claims selects what the journal at the lap's end selects; and the blocks set agree with what each worker saw, and
--- are the inputs'.
+-- A lap on its tables: as many of its packets were claimed as claims were made, all or, where it
+-- ends early, fewer. The list of the table of claims selects what the journal at the lap's end
+-- selects; and the blocks set agree with what each worker saw, and are the inputs'.
 pub record IsLap (s : SetupParts) (g : Gathering) (blocks : Blocks) (l : Lap) : Type 0 where
   pub most : l.made ≤ l.ticks * length s.device.outputs
   pub list : List Entry
@@ -166,14 +185,17 @@ pub record IsLap (s : SetupParts) (g : Gathering) (blocks : Blocks) (l : Lap) : 
   pub read : All (λ w. Agrees s.device w.looks w.heard set) l.workers
   pub fed : IsFed s g (s.device.base + l.before) l.ticks set blocks
 
--- Laps one behind the other, which lead from a number of claims and a journal to others: each begins with a tick, at the claims
--- so far; and its book goes on from the journal so far, with no answer before the lap's first claim or behind its last.
-abbrev pub AreLaps : SetupParts → Gathering → Blocks → ℕ → List JournalCall → List Lap → ℕ → List JournalCall → Type 0
+-- Laps one behind the other, which lead from a number of claims and a journal to others: each
+-- begins with a tick, at the claims so far; and its book goes on from the journal so far, with no
+-- answer before the lap's first claim or behind its last.
+abbrev pub AreLaps : SetupParts → Gathering → Blocks → ℕ → List JournalCall → List Lap → ℕ
+    → List JournalCall → Type 0
 AreLaps s g blocks from journal [] claims last = (from ≡ claims) × (journal ≡ last)
 AreLaps s g blocks from journal (l ∷ ls) claims last =
     (from ≡ first_claim s l)
     × (IsLap s g blocks l
-    × (AreGiven s journal from l.given l.journal (from + l.made) × AreLaps s g blocks (from + l.made) l.journal ls claims last))
+    × (AreGiven s journal from l.given l.journal (from + l.made)
+    × AreLaps s g blocks (from + l.made) l.journal ls claims last))
 
 -- what was answered in all laps
 abbrev pub given_in_laps : List Lap → List Given
@@ -185,9 +207,12 @@ abbrev pub items_in_laps : List Lap → List ClaimItem
 items_in_laps [] = []
 items_in_laps (l ∷ ls) = items_of l.workers ++ items_in_laps ls
 
--- A session: its laps from the first claim and no call on, and then the book's answers to the asks that are left, with all claims
--- made. What each client asked is what was answered in the laps and what was left then, in order.
-pub record IsSession (s : SetupParts) (g : Gathering) (blocks : Blocks) (claims : ℕ) (asks : ℕ → List Request) (laps : List Lap) (late : List Given) (last : List JournalCall) : Type 0 where
+-- A session: its laps from the first claim and no call on, and then the book's answers to the asks
+-- that are left, with all claims made. What each client asked is what was answered in the laps and
+-- what was left then, in order.
+pub record IsSession (s : SetupParts) (g : Gathering) (blocks : Blocks) (claims : ℕ)
+    (asks : ℕ → List Request) (laps : List Lap) (late : List Given) (last : List JournalCall)
+    : Type 0 where
   pub journal : List JournalCall
   pub left : ℕ → List Request
   pub laps_are : AreLaps s g blocks 0 [] laps claims journal
@@ -205,17 +230,24 @@ history_by_given claims given last = history_of claims last (replies_of given)
 
 -- a history of plain requests that is legal by a way to gather
 abbrev pub IsLegalBy : SetupParts → Gathering → ℕ → Blocks → (ℕ → List Request) → History → Type 0
-IsLegalBy s g claims blocks asks h = IsLegalHistory s asks_itself says_reply claims blocks (form_by s g (entries_of s h.journal) blocks) asks h
+IsLegalBy s g claims blocks asks h =
+    IsLegalHistory s asks_itself says_reply StandsThere claims blocks
+    (form_by s g (entries_of s h.journal) blocks) asks h
 
 -- a history of asks of any kind that is legal by a way to gather
 abbrev pub IsToldBy : SetupParts → Gathering → ℕ → Blocks → (ℕ → List Ask) → History → Type 0
-IsToldBy s g claims blocks asks h = IsLegalHistory s (λ ask. ask.asked) (λ ask. ask.says) claims blocks (form_by s g (entries_of s h.journal) blocks) asks h
+IsToldBy s g claims blocks asks h =
+    IsLegalHistory s (λ ask. ask.asked) (λ ask. ask.says) StandsThere claims blocks
+    (form_by s g (entries_of s h.journal) blocks) asks h
 
 -- the items tell each client what is said to its asks of any kind, for these answers
 abbrev pub AreAllSaid : (ℕ → List Ask) → List Given → List ReplyItem → Type 0
 AreAllSaid asks given items =
-    (client : ℕ) → AreSaid (λ ask. ask.asked) (λ ask. ask.says) first_floor (asks client) (given_to client given) (replies_to client items)
+    (client : ℕ) → AreSaid (λ ask. ask.asked) (λ ask. ask.says) first_floor (asks client)
+    (given_to client given) (replies_to client items)
 
--- there is a session of so many claims over blocks, which leaves these answers, this journal, and no ask
+-- there is a session of so many claims over blocks, which leaves these answers, this journal, and
+-- no ask
 abbrev pub HasSession : SetupParts → Gathering → Blocks → ℕ → List Given → List JournalCall → Type 0
-HasSession s g blocks claims given journal = (laps : List Lap) × IsSession s g blocks claims (requests_of given) laps [] journal
+HasSession s g blocks claims given journal =
+    (laps : List Lap) × IsSession s g blocks claims (requests_of given) laps [] journal

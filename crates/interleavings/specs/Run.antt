@@ -1,5 +1,7 @@
 -- The history of a list of events with their answers. (This project's own.)
-use Rattle.std.specs.Prelude.{ℕ, ◌&&◌, ◌||◌, eqb, nat_lt, not, Bool, false, List, [], ◌∷◌, length, map, filter_map, Option, Some, None, option_map, slice_index_or, if◌then◌else◌}
+use Rattle.std.specs.Prelude.{ℕ, ◌&&◌, ◌||◌, eqb, nat_lt, not, Bool, false, List, [], ◌∷◌, length}
+use Rattle.std.specs.Prelude.{map, filter_map, Option, Some, None, option_map, slice_index_or}
+use Rattle.std.specs.Prelude.{if◌then◌else◌}
 use Rattle.std.specs.List.{range_with_len}
 use Rattle.std.specs.Option.{option_or}
 use Rattle.map_entry.specs.Setup.{SetupParts}
@@ -17,7 +19,9 @@ use Rattle.plain_book.specs.Time.{tick_of_claim}
 use Rattle.interleavings.specs.declared.events.Event.{Event}
 use Rattle.interleavings.specs.declared.events.Event.TheVariants.{Claim, Look, Set, Close, Call}
 use Rattle.interleavings.specs.declared.events.Answer.{Answer}
-use Rattle.interleavings.specs.declared.events.Answer.TheVariants.{Claimed, Over, Seen, Nothing, Done, AlreadySet, Closed, Replied}
+use Rattle.interleavings.specs.declared.events.Answer.TheVariants.{Claimed, Over, Seen, Nothing}
+use Rattle.interleavings.specs.declared.events.Answer.TheVariants.{Done, AlreadySet, Closed}
+use Rattle.interleavings.specs.declared.events.Answer.TheVariants.{Replied}
 use Rattle.interleavings.specs.declared.events.Taken.{Taken}
 use Rattle.interleavings.specs.Events.{block_in, claims_in, drawn, drawn_by, journal_in}
 use Rattle.interleavings.specs.Legal.{packet_of}
@@ -43,20 +47,23 @@ saw AlreadySet = false
 saw Closed = false
 saw (Replied reply stamp) = false
 
--- whether a look of a worker with this latest claim is for claim k: it is at its tick, and before the worker claims behind k
+-- whether a look of a worker with this latest claim is for claim k: it is at its tick, and before
+-- the worker claims behind k
 abbrev pub is_for : SetupParts → ℕ → Option ℕ → Bool
 is_for s k None = false
 is_for s k (Some j) = not (nat_lt k j) && eqb (tick_of_claim s j) (tick_of_claim s k)
 
 -- whether a worker with this latest claim sees the block of an input for claim k by an event
 abbrev pub sees_by : SetupParts → ℕ → ℕ → ℕ → Option ℕ → Taken → Bool
-sees_by s worker k input latest t = looks worker input t.event && (saw t.answer && is_for s k latest)
+sees_by s worker k input latest t =
+    looks worker input t.event && (saw t.answer && is_for s k latest)
 
 -- whether it does by one of these events, with this latest claim before them
 abbrev pub seen_from : SetupParts → ℕ → ℕ → ℕ → Option ℕ → List Taken → Bool
 seen_from s worker k input latest [] = false
 seen_from s worker k input latest (t ∷ events) =
-    sees_by s worker k input latest t || seen_from s worker k input (option_or (drawn_by worker t) latest) events
+    sees_by s worker k input latest t
+    || seen_from s worker k input (option_or (drawn_by worker t) latest) events
 
 -- the worker of a claim; other events have none, and 0 stands for it
 abbrev pub claimer : Event → ℕ
@@ -78,15 +85,19 @@ drawers events = filter_map draws events
 abbrev pub worker_of : List Taken → ℕ → ℕ
 worker_of events k = slice_index_or (drawers events) k 0
 
--- whether the worker of a claim saw the block of an input at its tick, for this claim or an earlier one
+-- whether the worker of a claim saw the block of an input at its tick, for this claim or an earlier
+-- one
 abbrev pub has_seen : SetupParts → List Taken → Sights
 has_seen s events k input = seen_from s (worker_of events k) k input None events
 
 -- ---- the history
 
--- the flags of a claim: of the inputs that its packet names, by the whole journal, and of which this was seen
+-- the flags of a claim: of the inputs that its packet names, by the whole journal, and of which
+-- this was seen
 abbrev pub seen_flags : SetupParts → List JournalCall → (ℕ → Bool) → ℕ → List Bool
-seen_flags s journal seen k = map (λ input. names_by s (entries_of s journal) k input && seen input) (range_with_len 0 (length s.device.inputs))
+seen_flags s journal seen k =
+    map (λ input. names_by s (entries_of s journal) k input && seen input)
+    (range_with_len 0 (length s.device.inputs))
 
 -- claim k with these flags and its packet by the whole journal
 abbrev pub claim_with : SetupParts → List JournalCall → Blocks → ℕ → List Bool → ClaimItem
@@ -94,7 +105,8 @@ claim_with s journal blocks k found = claim_item k found (packet_of s journal bl
 
 -- claim k of these events: its flags are those of the blocks that its worker saw
 abbrev pub claim_in : SetupParts → List JournalCall → List Taken → ℕ → ClaimItem
-claim_in s journal events k = claim_with s journal (block_in events) k (seen_flags s journal (has_seen s events k) k)
+claim_in s journal events k =
+    claim_with s journal (block_in events) k (seen_flags s journal (has_seen s events k) k)
 
 -- the reply of a call's answer, where it has one
 abbrev pub reply_by : ℕ → Answer → Option ReplyItem
@@ -122,7 +134,8 @@ replies_given events = filter_map (λ t. reply_in t.event t.answer) events
 -- the history of these events: the claims made, the calls accepted, and the replies in order
 unfoldable pub history_in : SetupParts → List Taken → History
 history_in s events =
-    history_of (map (claim_in s (journal_in s events) events) (range_with_len 0 (claims_in events))) (journal_in s events) (in_order (replies_given events))
+    history_of (map (claim_in s (journal_in s events) events) (range_with_len 0 (claims_in events)))
+    (journal_in s events) (in_order (replies_given events))
 
 -- the request of an event, where it is a call of this client
 abbrev pub ask_in : ℕ → Event → Option Request

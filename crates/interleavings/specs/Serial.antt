@@ -1,5 +1,6 @@
 -- The history of claims and requests that are made one after another. (This project's own.)
-use Rattle.std.specs.Prelude.{ℕ, ◌+◌, eqb, List, [], ◌∷◌, ◌++◌, length, map, filter_map, Option, Some, None, if◌then◌else◌}
+use Rattle.std.specs.Prelude.{ℕ, ◌+◌, eqb, List, [], ◌∷◌, ◌++◌, length, map, filter_map, Option}
+use Rattle.std.specs.Prelude.{Some, None, if◌then◌else◌}
 use Rattle.std.specs.List.{range_with_len}
 use Rattle.std.specs.Option.{option_to_list}
 use Rattle.map_entry.specs.Setup.{SetupParts}
@@ -31,7 +32,8 @@ pub record SerialParts : Type 0 where
 abbrev pub serial_parts : ℕ → List JournalCall → List ReplyItem → SerialParts
 serial_parts claims journal given = record { claims = claims; journal = journal; given = given }
 
--- a step behind these: claims are made, or a request is answered by the book at the calls and claims so far
+-- a step behind these: claims are made, or a request is answered by the book at the calls and
+-- claims so far
 abbrev pub serial_step : SetupParts → SerialParts → SerialStep → SerialParts
 serial_step s p (Claims count) = serial_parts (p.claims + count) p.journal p.given
 serial_step s p (Ask client request) =
@@ -51,12 +53,15 @@ serial_run s steps = serial_from s (serial_parts 0 [] []) steps
 
 -- claim k with its flags in closed form over all blocks
 abbrev pub closed_claim : SetupParts → List JournalCall → Blocks → ℕ → ClaimItem
-closed_claim s journal blocks k = claim_with s journal blocks k (closed_flags s (entries_of s journal) blocks k)
+closed_claim s journal blocks k =
+    claim_with s journal blocks k (closed_flags s (entries_of s journal) blocks k)
 
--- the history of these: each claim by the whole journal and over all blocks, and the replies in order
+-- the history of these: each claim by the whole journal and over all blocks, and the replies in
+-- order
 abbrev pub closed_history : SetupParts → Blocks → ℕ → List JournalCall → List ReplyItem → History
 closed_history s blocks claims journal given =
-    history_of (map (closed_claim s journal blocks) (range_with_len 0 claims)) journal (in_order given)
+    history_of (map (closed_claim s journal blocks) (range_with_len 0 claims)) journal
+    (in_order given)
 
 -- the history of steps, over blocks
 abbrev pub history_by : SetupParts → Blocks → SerialParts → History

@@ -1,6 +1,7 @@
--- What single calls on running tables tell, from which the facts of a session are made; and how the parts of a history are joined.
--- (This project's own.)
-use Rattle.std.specs.Prelude.{◌≡◌, ℕ, ◌+◌, ◌<◌, ◌≤◌, fold, Bool, true, false, List, [], ◌∷◌, ◌++◌, length, All, IsPermutation}
+-- What single calls on running tables tell, from which the facts of a session are made; and how the
+-- parts of a history are joined. (This project's own.)
+use Rattle.std.specs.Prelude.{◌≡◌, ℕ, ◌+◌, ◌<◌, ◌≤◌, fold, Bool, true, false, List, [], ◌∷◌, ◌++◌}
+use Rattle.std.specs.Prelude.{length, All, IsPermutation}
 use Rattle.std.specs.List.{Contains}
 use Rattle.std.specs.List.Sorted.{IsNonDecreasingBy}
 use Rattle.io_caps.specs.declared.device.DeviceParts.{DeviceParts}
@@ -14,7 +15,8 @@ use Rattle.plain_book.specs.declared.history.ClaimItem.{ClaimItem}
 use Rattle.plain_book.specs.declared.history.History.{History}
 use Rattle.plain_book.specs.Given.{replies_of}
 use Rattle.plain_book.specs.History.{history_of, put}
-use Rattle.interleavings.specs.Facts.{Agrees, Draw, Heard, IsGood, Lap, Look, Made, items_of, once_below, times}
+use Rattle.interleavings.specs.Facts.{Agrees, Draw, Heard, IsGood, Lap, Look, Made, items_of}
+use Rattle.interleavings.specs.Facts.{once_below, times}
 
 -- ---- looks
 
@@ -47,34 +49,43 @@ LookedFree looks input tick false = Unit {0}
 
 -- all that agrees with what was seen later agrees with what was seen before
 abbrev pub KnowsMore : DeviceParts → List Look → List Heard → List Look → List Heard → Type 0
-KnowsMore d looks heard more further = (blocks : Blocks) → Agrees d more further blocks → Agrees d looks heard blocks
+KnowsMore d looks heard more further =
+    (blocks : Blocks) → Agrees d more further blocks → Agrees d looks heard blocks
 
 -- ---- a gathered packet, by what its worker has seen once it is made
 
--- In closed form: the flag of an input that the entries found name is that of a look, and another input's is not set; and the
--- packet is by the entries found, over any blocks that agree.
-pub record GathersClosed (s : SetupParts) (from : ℕ) (d : Draw) (looks : List Look) (heard : List Heard) (item : ClaimItem) : Type 0 where
+-- In closed form: the flag of an input that the entries found name is that of a look, and another
+-- input's is not set; and the packet is by the entries found, over any blocks that agree.
+pub record GathersClosed (s : SetupParts) (from : ℕ) (d : Draw) (looks : List Look)
+    (heard : List Heard) (item : ClaimItem) : Type 0 where
   pub number : item.k ≡ from + d.number
   pub long : length item.found ≡ length s.device.inputs
   pub named : (input : ℕ) → input < length s.device.inputs → names_by s d.found item.k input ≡ true
       → LookedClosed looks input (tick_of_claim s item.k) (flag_of item.found input)
-  pub other : (input : ℕ) → input < length s.device.inputs → names_by s d.found item.k input ≡ false → flag_of item.found input ≡ false
-  pub packet : (blocks : Blocks) → Agrees s.device looks heard blocks → item.packet ≡ packet_by s d.found blocks item.found item.k
+  pub other : (input : ℕ) → input < length s.device.inputs → names_by s d.found item.k input ≡ false
+      → flag_of item.found input ≡ false
+  pub packet : (blocks : Blocks) → Agrees s.device looks heard blocks
+      → item.packet ≡ packet_by s d.found blocks item.found item.k
 
--- In free form: the same with a look at any time, but a block of the claim's tick that had been seen before is found again.
-pub record GathersFree (s : SetupParts) (from : ℕ) (d : Draw) (before looks : List Look) (heard : List Heard) (item : ClaimItem) : Type 0 where
+-- In free form: the same with a look at any time, but a block of the claim's tick that had been
+-- seen before is found again.
+pub record GathersFree (s : SetupParts) (from : ℕ) (d : Draw) (before looks : List Look)
+    (heard : List Heard) (item : ClaimItem) : Type 0 where
   pub number : item.k ≡ from + d.number
   pub long : length item.found ≡ length s.device.inputs
   pub named : (input : ℕ) → input < length s.device.inputs → names_by s d.found item.k input ≡ true
       → LookedFree looks input (tick_of_claim s item.k) (flag_of item.found input)
-  pub other : (input : ℕ) → input < length s.device.inputs → names_by s d.found item.k input ≡ false → flag_of item.found input ≡ false
+  pub other : (input : ℕ) → input < length s.device.inputs → names_by s d.found item.k input ≡ false
+      → flag_of item.found input ≡ false
   pub again : (input : ℕ) → input < length s.device.inputs → names_by s d.found item.k input ≡ true
       → HasSeen before input (tick_of_claim s item.k) → flag_of item.found input ≡ true
-  pub packet : (blocks : Blocks) → Agrees s.device looks heard blocks → item.packet ≡ packet_by s d.found blocks item.found item.k
+  pub packet : (blocks : Blocks) → Agrees s.device looks heard blocks
+      → item.packet ≡ packet_by s d.found blocks item.found item.k
 
 -- what is seen for a claim had been looked at before
 abbrev pub IsSeenBefore : SetupParts → Sights → List Look → ℕ → Type 0
-IsSeenBefore s seen before k = (input : ℕ) → seen k input ≡ true → HasSeen before input (tick_of_claim s k)
+IsSeenBefore s seen before k =
+    (input : ℕ) → seen k input ≡ true → HasSeen before input (tick_of_claim s k)
 
 -- ---- a worker's job
 
@@ -84,11 +95,13 @@ none_made = record { draws = []; looks = []; heard = []; items = [] }
 
 -- with one more draw and its claim, and what is seen now
 abbrev pub made_more : Made → Draw → List Look → List Heard → ClaimItem → Made
-made_more w d looks heard item = record { draws = w.draws ++ d ∷ []; looks = looks; heard = heard; items = w.items ++ item ∷ [] }
+made_more w d looks heard item =
+    record { draws = w.draws ++ d ∷ []; looks = looks; heard = heard; items = w.items ++ item ∷ [] }
 
 -- with a draw past the packets
 abbrev pub made_over : Made → Draw → Made
-made_over w d = record { draws = w.draws ++ d ∷ []; looks = w.looks; heard = w.heard; items = w.items }
+made_over w d =
+    record { draws = w.draws ++ d ∷ []; looks = w.looks; heard = w.heard; items = w.items }
 
 -- with what is seen now alone
 abbrev pub made_still : Made → List Look → List Heard → Made
@@ -96,8 +109,10 @@ made_still w looks heard = record { draws = w.draws; looks = looks; heard = hear
 
 -- ---- the end of a table of claims
 
--- what is known once every pass is back: each draw is good, and each number below those drawn stands once, and no other
-pub record EndsTable (s : SetupParts) (from packets : ℕ) (list : List Entry) (draws : List Draw) : Type 0 where
+-- what is known once every pass is back: each draw is good, and each number below those drawn
+-- stands once, and no other
+pub record EndsTable (s : SetupParts) (from packets : ℕ) (list : List Entry) (draws : List Draw)
+    : Type 0 where
   pub drawn : ℕ
   pub good : All (IsGood s from packets list) draws
   pub once : (number : ℕ) → times number draws ≡ once_below number drawn
@@ -110,28 +125,32 @@ pub record HasOver (packets : ℕ) (draws : List Draw) : Type 0 where
 
 -- ---- parts of a history
 
--- Two parts joined: claims behind claims, calls behind calls, and the later replies put to the earlier ones, since replies of both
--- may stand at the same claims.
+-- Two parts joined: claims behind claims, calls behind calls, and the later replies put to the
+-- earlier ones, since replies of both may stand at the same claims.
 abbrev pub parts_joined : History → History → History
-parts_joined a b = history_of (a.claims ++ b.claims) (a.journal ++ b.journal) (fold put a.replies b.replies)
+parts_joined a b =
+    history_of (a.claims ++ b.claims) (a.journal ++ b.journal) (fold put a.replies b.replies)
 
 -- all parts joined
 abbrev pub all_joined : List History → History
 all_joined parts = fold parts_joined (history_of [] [] []) parts
 
--- A part between two journals: these claims in the order of their numbers, the calls behind the first journal, and the replies of
--- these answers in order.
-pub record IsHistoryPart (before after : List JournalCall) (items : List ClaimItem) (given : List Given) (part : History) : Type 0 where
+-- A part between two journals: these claims in the order of their numbers, the calls behind the
+-- first journal, and the replies of these answers in order.
+pub record IsHistoryPart (before after : List JournalCall) (items : List ClaimItem)
+    (given : List Given) (part : History) : Type 0 where
   pub claims : IsPermutation items part.claims
   pub rises : IsNonDecreasingBy (λ c. c.k) part.claims
   pub calls : before ++ part.journal ≡ after
   pub replies : part.replies ≡ replies_of given
 
 -- a part of each lap, and one of the answers to what was left, which has no claims
-abbrev pub AreHistoryParts : List JournalCall → List Lap → List Given → List JournalCall → List History → Type 0
+abbrev pub AreHistoryParts : List JournalCall → List Lap → List Given → List JournalCall
+    → List History → Type 0
 AreHistoryParts journal [] late last [] = ⊥
 AreHistoryParts journal [] late last (part ∷ []) = IsHistoryPart journal last [] late part
 AreHistoryParts journal [] late last (part ∷ other ∷ parts) = ⊥
 AreHistoryParts journal (l ∷ ls) late last [] = ⊥
 AreHistoryParts journal (l ∷ ls) late last (part ∷ parts) =
-    IsHistoryPart journal l.journal (items_of l.workers) l.given part × AreHistoryParts l.journal ls late last parts
+    IsHistoryPart journal l.journal (items_of l.workers) l.given part
+    × AreHistoryParts l.journal ls late last parts

@@ -26,7 +26,8 @@ ghost use Rattle.interleavings.specs.Facts.Gathering.{GatherClosed, GatherFree};
 ghost use Rattle.interleavings.specs.Legal.{IsClosedHistory, IsFreeHistory};
 ghost use Rattle.interleavings.specs.Steps.{AreHistoryParts, EndsTable, GathersClosed};
 ghost use Rattle.interleavings.specs.Steps.{GathersFree, HasOver, IsSeenBefore, KnowsMore};
-ghost use Rattle.interleavings.specs.Steps.{all_joined, made_more, made_over, made_still, none_made};
+ghost use Rattle.interleavings.specs.Steps.{all_joined, made_more, made_over, made_still};
+ghost use Rattle.interleavings.specs.Steps.{none_made};
 ghost use Rattle.interleavings.specs.Told.{Ask};
 
 /// What a session on running tables leaves, in one lap or more, is a legal history: the claims of

@@ -1,4 +1,5 @@
-//! What holds of every list of events: laws, each the contract of a function that does nothing. A caller that cites one calls it.
+//! What holds of every list of events: laws, each the contract of a function that does nothing. A
+//! caller that cites one calls it.
 
 ghost use Rattle.std.specs.Prelude.{◌≡◌, true, [], ℕ, List};
 ghost use Rattle.map_entry.specs.Setup.{SetupParts};
@@ -12,7 +13,8 @@ ghost use Rattle.plain_book.specs.declared.requests.Request.{Request};
 ghost use Rattle.plain_book.specs.Given.{AreGiven, replies_of};
 ghost use Rattle.plain_book.specs.History.{AreInOrder, replies_to};
 ghost use Rattle.interleavings.specs.Events.{IsRun, block_in, claims_in};
-ghost use Rattle.interleavings.specs.Legal.{AreReplies, IsClosedHistory, IsFreeHistory, asks_itself, first_floor, says_reply};
+ghost use Rattle.interleavings.specs.Legal.{AreReplies, IsClosedHistory, IsFreeHistory};
+ghost use Rattle.interleavings.specs.Legal.{StandsThere, asks_itself, first_floor, says_reply};
 ghost use Rattle.interleavings.specs.Run.{asks_in, has_seen, history_in};
 ghost use Rattle.interleavings.specs.Serial.{SerialStep, serial_asks, serial_history, serial_run};
 ghost use Rattle.interleavings.specs.Told.{AreSaid, Ask, given_to, requests_of};
@@ -21,29 +23,36 @@ ghost use Rattle.interleavings.specs.declared.events.Taken.{Taken};
 /// Whatever happens, in whatever order, the history of what was answered is legal.
 pub fn every_run_is_legal()
     ensures { (s : SetupParts) (ticks : ℕ) (events : List Taken) → IsRun s ticks events
-        → IsFreeHistory s (claims_in events) (block_in events) (has_seen s events) (asks_in events) (history_in s events) }
+        → IsFreeHistory s (claims_in events) (block_in events) (has_seen s events)
+        (asks_in events) (history_in s events) }
 {}
 
 /// Claims and requests one after another make a legal history, in closed form over any blocks.
 pub fn serial_histories_are_legal()
     ensures { (s : SetupParts) (blocks : Blocks) (steps : List SerialStep)
-        → IsClosedHistory s (serial_run s steps).claims blocks (serial_asks steps) (serial_history s blocks steps) }
+        → IsClosedHistory s (serial_run s steps).claims blocks (serial_asks steps)
+        (serial_history s blocks steps) }
 {}
 
 /// A history that is legal in closed form is legal in free form, whatever of the blocks was seen.
 pub fn closed_histories_are_free()
-    ensures { (s : SetupParts) (claims : ℕ) (blocks : Blocks) (seen : Sights) (asks : ℕ → List Request) (h : History)
+    ensures { (s : SetupParts) (claims : ℕ) (blocks : Blocks) (seen : Sights)
+        (asks : ℕ → List Request) (h : History)
         → ((k input : ℕ) → seen k input ≡ true → is_there s blocks k input ≡ true)
         → IsClosedHistory s claims blocks asks h → IsFreeHistory s claims blocks seen asks h }
 {}
 
-/// What a book answers from its first call on makes legal replies: to plain requests the answers in order, and to asks of any
-/// kind what is said for them to each client, in the order of a history.
+/// What a book answers from its first call on makes legal replies: to plain requests the answers in
+/// order, and to asks of any kind what is said for them to each client, in the order of a history.
 pub fn answers_make_legal_replies()
-    ensures plain { (s : SetupParts) (journal : List JournalCall) (claims : ℕ) (given : List Given) → AreGiven s [] 0 given journal claims
-        → AreReplies s asks_itself says_reply journal claims (requests_of given) (replies_of given) }
-    ensures told { (s : SetupParts) (journal : List JournalCall) (claims : ℕ) (asks : ℕ → List Ask) (given : List Given) (items : List ReplyItem)
+    ensures plain { (s : SetupParts) (journal : List JournalCall) (claims : ℕ)
+        (given : List Given) → AreGiven s [] 0 given journal claims
+        → AreReplies s asks_itself says_reply StandsThere journal claims
+        (requests_of given) (replies_of given) }
+    ensures told { (s : SetupParts) (journal : List JournalCall) (claims : ℕ)
+        (asks : ℕ → List Ask) (given : List Given) (items : List ReplyItem)
         → AreGiven s [] 0 given journal claims
-        → ((client : ℕ) → AreSaid (λ ask. ask.asked) (λ ask. ask.says) first_floor (asks client) (given_to client given) (replies_to client items))
-        → AreInOrder items → AreReplies s (λ ask. ask.asked) (λ ask. ask.says) journal claims asks items }
+        → ((client : ℕ) → AreSaid (λ ask. ask.asked) (λ ask. ask.says) first_floor (asks client)
+        (given_to client given) (replies_to client items)) → AreInOrder items
+        → AreReplies s (λ ask. ask.asked) (λ ask. ask.says) StandsThere journal claims asks items }
 {}

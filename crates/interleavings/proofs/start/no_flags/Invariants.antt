@@ -1,0 +1,6 @@
+use Rattle.std.proofs.Common.{◌≡◌, false}
+use Rattle.interleavings.specs.Core.{repeated}
+use Rattle.interleavings.proofs.start.no_flags.Given as goal
+
+abbrev pub invariant-loop-input : goal.invariant-loop-input
+invariant-loop-input l = l.made ≡ repeated false l.input
