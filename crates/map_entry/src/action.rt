@@ -60,8 +60,8 @@ impl Action {
         ensures ok { OnOk result (self.new ≡ self.old ++ change ∷ []) }
         ensures err { OnErr result (self.new ≡ self.old) }
     {
-        // The proof that the outputs still ascend looks at it.
-        let _ = &change.output;
+        let ascends = self.ends_below(change.output);
+        prove!(ascends);
         self.changes.push(change)?;
         Ok(())
     }
@@ -75,12 +75,22 @@ impl Action {
         ensures refused { IfOk result (λ b. OnFalse b (IsAction (self.old ++ change ∷ []) → ⊥)) }
         ensures err { OnErr result (self.new ≡ self.old) }
     {
+        if !self.ends_below(change.output) {
+            return Ok(false);
+        }
+        self.push(change)?;
+        Ok(true)
+    }
+
+    /// Whether the last output that is changed is below this one.
+    fn ends_below(&self, output: u8) -> bool
+        ensures value { IsTrue result
+            ↔ IfSome (slice_get self.now (length self.now - 1)) (λ last. last.output < output) }
+        ensures valid { IsAction self.now }
+    {
         match self.changes.as_slice().last() {
-            Some(last) if last.output >= change.output => Ok(false),
-            _ => {
-                self.push(change)?;
-                Ok(true)
-            }
+            Some(last) => last.output < output,
+            None => true,
         }
     }
 
