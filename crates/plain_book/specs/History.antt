@@ -1,11 +1,8 @@
 -- Histories: which are whole, and in which order their replies stand. (This project's own.)
-use Rattle.std.specs.Prelude.{◌≡◌, ℕ, ◌+◌, ◌≤◌, ◌&&◌, ◌||◌, eqb, nat_lt, Bool, false, List, [], ◌∷◌, ◌++◌, length, map, filter, fold, slice_get, All, AllPairs, if◌then◌else◌}
-use Rattle.std.specs.List.{AllByRecursion, flat_map, range_with_len}
-use Rattle.std.specs.Option.{option_to_list}
+use Rattle.std.specs.Prelude.{◌≡◌, ℕ, ◌≤◌, ◌&&◌, ◌||◌, eqb, nat_lt, Bool, false, List, [], ◌∷◌, length, map, filter, fold, All, AllPairs, if◌then◌else◌}
+use Rattle.std.specs.List.{AllByRecursion, range_with_len}
 use Rattle.plain_book.specs.declared.calls.JournalCall.{JournalCall}
 use Rattle.plain_book.specs.declared.history.ClaimItem.{ClaimItem}
-use Rattle.plain_book.specs.declared.history.HistoryItem.{HistoryItem}
-use Rattle.plain_book.specs.declared.history.HistoryItem.TheVariants.{Call, Reply, Claim}
 use Rattle.plain_book.specs.declared.history.ReplyItem.{ReplyItem}
 use Rattle.plain_book.specs.declared.history.Said.{Said}
 use Rattle.plain_book.specs.declared.history.History.{History}
@@ -75,21 +72,6 @@ StampsRise (x ∷ xs) = AllByRecursion (λ r. IsNoEarlier r x) xs × StampsRise 
 pub record IsOrderOf (xs ys : List ReplyItem) : Type 0 where
   pub ordered : AreInOrder ys
   pub own : (client : ℕ) → replies_to client ys ≡ replies_to client xs
-
--- ---- the records of a history
-
--- the records at a number of claims: the calls accepted then, the replies, and the claim of that
--- number
-abbrev pub records_at : History → ℕ → List HistoryItem
-records_at h claims =
-    map Call (filter (λ call. eqb call.at claims) h.journal)
-    ++ (map Reply (filter (λ r. eqb r.stamp.claims claims) h.replies)
-    ++ map Claim (option_to_list (slice_get h.claims claims)))
-
--- The records of a history up to so many claims, in the order of a result: those at each number of
--- claims, from 0 on.
-abbrev pub records_of : History → ℕ → List HistoryItem
-records_of h claims = flat_map (records_at h) (range_with_len 0 (claims + 1))
 
 -- ---- whole histories
 

@@ -8,7 +8,6 @@ pub mod History
 pub mod Journal
 pub mod Legal
 pub mod Pending
-pub mod Records
 pub mod Replies
 pub mod Rows
 pub mod Ruling

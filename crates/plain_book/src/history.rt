@@ -3,7 +3,7 @@
 ghost use Rattle.std.specs.Prelude.{◌≡◌};
 ghost use Rattle.plain_book.specs.History.{claim_item, reply_item};
 
-use crate::{Journal, JournalCall, Reply, Stamp};
+use crate::{Journal, Reply, Stamp};
 use io_caps::{Bytes, Flags, ListOf, NoMemory, TryCopy};
 
 /// A claim, with its packet.
@@ -66,14 +66,6 @@ pub struct History {
     pub claims: ClaimItems,
     pub journal: Journal,
     pub replies: ReplyItems,
-}
-
-/// One record of a history.
-#[derive(Debug, Drop)]
-pub enum HistoryItem {
-    Call(JournalCall),
-    Reply(ReplyItem),
-    Claim(ClaimItem),
 }
 
 impl TryCopy for ClaimItem {

@@ -23,7 +23,7 @@ pub use calls::{Journal, JournalCall};
 pub use decisions::decide;
 pub use desk::{Desk, PlainDesk, base_entries};
 pub use given::{Given, GivenItems};
-pub use history::{ClaimItem, ClaimItems, History, HistoryItem, ReplyItem, ReplyItems, Said};
+pub use history::{ClaimItem, ClaimItems, History, ReplyItem, ReplyItems, Said};
 pub use kept::{Decided, Kept, Made, Settling, look, settle, stage, unstage};
 pub use replies::{Activation, ActiveView, PendingItem, PendingItems, Refusal, Reply};
 pub use requests::{Request, Requests, Stamp, When};
