@@ -6,7 +6,8 @@ use Rattle.std.specs.Prelude.{Some, slice_get}
 use Rattle.input_cells.specs.Faces.{InputFace, SeatFace, face_of}
 
 -- one more
-pub feeders_more : (table : List InputFace) (made : List SeatFace) (pass : SeatFace) (n : ℕ) → map face_of made ≡ take n table → slice_get table n ≡ Some (face_of pass)
+pub feeders_more : (table : List InputFace) (made : List SeatFace) (pass : SeatFace) (n : ℕ)
+    → map face_of made ≡ take n table → slice_get table n ≡ Some (face_of pass)
     → map face_of (made ++ pass ∷ []) ≡ take (n + 1) table
 feeders_more table made pass n so_far is =
     let f : InputFace = face_of pass in
