@@ -1,22 +1,21 @@
 -- What is true of the feeders' words agrees with the blocks set.
-use Rattle.std.proofs.Common.{◌≡◌, ◌⊎◌, ⊎_elim, ℕ, zero, suc, ◌+◌, ◌*◌, ◌<◌, ◌≤◌, List, [], ◌∷◌, ◌++◌, length, map, get_or, refl, sym, ap, ◌∙◌, subst, arith, true, false}
+use Rattle.std.proofs.Common.{◌≡◌, ⊎_elim, ℕ, zero, suc, ◌+◌, ◌*◌, ◌<◌, List, [], ◌∷◌, length, map, get_or, refl, sym, ap, ◌∙◌, subst, arith, true, false}
 use Rattle.std.proofs.lemmas.List.{length-map}
 use Rattle.std.proofs.lemmas.List.Elements.{All-nil, All-append, AllZip-get_or}
 use Rattle.std.specs.Prelude.{Option, Some, None, IfSome, is_some, ℤ, pos}
-use Rattle.std.specs.List.{All, AllZip, range_with_len}
+use Rattle.std.specs.List.{All, range_with_len}
 use Rattle.io_caps.specs.declared.device.DeviceParts.{DeviceParts}
 use Rattle.map_entry.specs.Row.{channels_of}
 use Rattle.packet_writer.specs.Heard.{sample_in}
 use Rattle.input_rule.specs.declared.view.Shape.{Shape}
 use Rattle.input_rule.specs.declared.view.Look.{Look}
 use Rattle.input_rule.specs.declared.view.Heard.{Heard}
-use Rattle.input_rule.specs.Rule.{IsHeard, IsLook}
 use Rattle.input_rule.specs.Words.{block_at, block_len, sample_at, samples_at}
 use Rattle.input_rule.proofs.Blocks.{block_cases, block_gone, block_there}
 use Rattle.input_cells.specs.Agreement.{Agrees, AreTrue, AreTrueOf, blocks_set}
 use Rattle.input_cells.specs.Faces.{InputFace, IsReadOf, SeatFace, face_of, heard_of, looks_of}
 use Rattle.input_cells.specs.Feeding.{block_fed}
-use Rattle.input_cells.specs.Shapes.{IsTableOf, shape_of, shapes_of}
+use Rattle.input_cells.specs.Shapes.{IsTableOf, shape_of}
 use Rattle.input_cells.proofs.Passes.{as_many, face_at}
 
 -- ---- lists

@@ -1,5 +1,5 @@
 -- One place is put into a set of places.
-use Rattle.std.proofs.Common.{◌≡◌, ◌≢◌, ℕ, ◌+◌, ◌*◌, ◌/◌, ◌%◌, ◌^◌, ◌<◌, List, length, get_or, set, bit_or, refl, sym, ap, ◌∙◌, subst, arith, w64, get_or-set_same, get_or-set_other, div-add-mod'}
+use Rattle.std.proofs.Common.{◌≡◌, ◌≢◌, ℕ, ◌*◌, ◌/◌, ◌%◌, ◌^◌, ◌<◌, List, length, get_or, set, bit_or, sym, ap, ◌∙◌, arith, w64, get_or-set_same, get_or-set_other, div-add-mod'}
 use Rattle.std.proofs.lemmas.Nat.Bits.{bit_at_set_same, bit_at_set_other}
 use Rattle.std.specs.Int.{bit_at}
 use mathlib.Core.Logic.{dite}

@@ -1,10 +1,9 @@
 -- Samples that a pass reads one by one.
-use Rattle.std.proofs.Common.{◌≡◌, ◌⊎◌, ⊎_elim, ℕ, zero, suc, ◌+◌, ◌*◌, ◌<◌, ◌≤◌, ◌==◌, ◌&&◌, ◌||◌, Bool, cond, true, false, true≢false, List, [], ◌∷◌, ◌++◌, length, map, get_or, set, refl, sym, ap, ◌∙◌, subst, arith, add-zero, get_or-set_same, get_or-set_other, length-set}
+use Rattle.std.proofs.Common.{◌≡◌, ℕ, zero, suc, ◌+◌, ◌*◌, ◌<◌, ◌≤◌, ◌||◌, Bool, cond, true, false, true≢false, List, [], ◌∷◌, length, get_or, set, refl, sym, ap, ◌∙◌, subst, arith, get_or-set_same, get_or-set_other, length-set}
 use Rattle.std.proofs.lemmas.Bool.Decides.{nat_tests}
-use Rattle.std.proofs.lemmas.List.{length-append}
 use Rattle.std.proofs.lemmas.List.Elements.{All-contains}
-use Rattle.std.specs.Prelude.{replicate, Option, Some, None, IfSome, is_some, ℤ, pos, nat_le, nat_lt}
-use Rattle.std.specs.List.{All, AllZip, Contains, range_with_len}
+use Rattle.std.specs.Prelude.{replicate, Option, Some, None, IfSome, is_some, ℤ, pos}
+use Rattle.std.specs.List.{All, Contains}
 use mathlib.Core.Logic.{dite}
 use native.Mathlib.Decide.{ℕ_discrete}
 use Rattle.io_caps.specs.declared.device.DeviceParts.{DeviceParts}
@@ -21,8 +20,8 @@ use Rattle.input_rule.proofs.Blocks.{spells}
 use Rattle.input_cells.specs.Agreement.{Agrees, AreHeard, AreSeen, AreSights, HasHeard, IsHeardOf, any_sight, has_tick, is_sight, sees}
 use Rattle.input_cells.specs.Faces.{Grows, GrowsAt, HasInput, HasShape, HasView, InputFace, IsReadOf, SeatFace, face_of, heard_of, looks_of}
 use Rattle.input_cells.specs.Shapes.{IsTableOf, shape_of}
-use Rattle.input_cells.proofs.Agreeing.{range_at, range_long, shape_in}
-use Rattle.input_cells.proofs.Growing.{grown_view, grows_then, keeps_seen, last_among, left_part, right_part, listened_more, on_all, on_among, stays_of_table, still_at}
+use Rattle.input_cells.proofs.Agreeing.{range_at, shape_in}
+use Rattle.input_cells.proofs.Growing.{grows_then, keeps_seen, last_among, left_part, right_part, listened_more, on_all, on_among, still_at}
 use Rattle.input_cells.proofs.Passes.{as_many, face_at}
 use Rattle.input_cells.proofs.Starting.{as_inputs}
 

@@ -1,5 +1,5 @@
 -- What the feeder's stores make of the blocks that are seen.
-use Rattle.std.proofs.Common.{◌≡◌, ◌≢◌, ℕ, zero, suc, ◌+◌, ◌-◌, ◌*◌, ◌<◌, ◌≤◌, ◌^◌, List, [], ◌∷◌, length, map, get_or, set, true≢false, ⊎_elim, refl, sym, ap, ◌∙◌, subst, arith, le_refl, get_or-set_same, get_or-set_other}
+use Rattle.std.proofs.Common.{◌≡◌, ℕ, ◌+◌, ◌-◌, ◌*◌, ◌<◌, ◌≤◌, ◌^◌, List, length, map, get_or, set, true≢false, ⊎_elim, refl, sym, ap, ◌∙◌, subst, arith, get_or-set_same, get_or-set_other}
 use Rattle.std.specs.Prelude.{ℤ, pos, Some}
 use Rattle.std.specs.List.{range_with_len}
 use mathlib.Core.Logic.{dite}
@@ -11,9 +11,8 @@ use Rattle.input_rule.specs.Words.{AreLater, AreWords, HasTick, IsAbsent, IsPres
 use Rattle.input_rule.specs.Views.{wrote}
 use Rattle.input_rule.proofs.Later.{MayStore, later_self, later_then, may_store_closing, may_store_presence, may_store_sample}
 use Rattle.input_rule.proofs.Blocks.{block_cases, block_stays, block_there, present_is, spells}
-use Rattle.input_cells.specs.Ticks.{bit_of}
 use Rattle.input_cells.specs.Faces.{InputFace, SeatFace, face_of}
-use Rattle.input_cells.specs.Feeding.{Closes, FeedsOn, IsFeedPass, IsFeeding, Sets, Spells, Stores, StoresSample}
+use Rattle.input_cells.specs.Feeding.{Closes, IsFeeding, Sets, Spells, Stores, StoresSample}
 
 -- one sample more
 pub spell_more : (a b c : SeatFace) (tick : ℕ) (block : List ℤ) (n : ℕ) → Spells a b tick block n → StoresSample b c tick n (get_or block n (pos 0)) → Spells a c tick block (n + 1)

@@ -1,6 +1,6 @@
 -- Feeders' passes are given once.
-use Rattle.std.proofs.Common.{◌≡◌, ◌≢◌, ℕ, zero, suc, ◌+◌, ◌<◌, ◌≤◌, ◌↔◌, List, [], ◌∷◌, length, map, get_or, set, refl, sym, ap, ◌∙◌, subst, arith, Bool, true, false, true≢false}
-use Rattle.std.specs.Prelude.{Option, Some, None, Result, Ok, Err, IfSome, IfOk, IsErr, OnOk, OnErr, is_none, slice_get}
+use Rattle.std.proofs.Common.{◌≡◌, ℕ, zero, suc, ◌<◌, ◌↔◌, List, [], ◌∷◌, length, map, get_or, set, refl, sym, ap, ◌∙◌, subst, arith, true, false, true≢false}
+use Rattle.std.specs.Prelude.{Option, Some, None, Result, Ok, Err, IfOk, IsErr, OnOk, OnErr, is_none, slice_get}
 use Rattle.std.specs.List.{AllZip}
 use Rattle.input_cells.specs.Faces.{AreNumbered, InputFace, IsFeedOf, IsKept, IsUnfed, SeatFace, face_of, unfed}
 

@@ -1,18 +1,15 @@
 -- What passes know only grows.
-use Rattle.std.proofs.Common.{◌≡◌, ℕ, zero, suc, ◌+◌, ◌*◌, ◌<◌, ◌≤◌, List, [], ◌∷◌, ◌++◌, length, map, get_or, set, refl, sym, ap, ◌∙◌, subst, arith, append_assoc, true, false, Bool}
+use Rattle.std.proofs.Common.{◌≡◌, ℕ, zero, suc, ◌<◌, List, [], ◌∷◌, ◌++◌, length, map, get_or, refl, sym, ap, ◌∙◌, subst, arith, append_assoc, true, false, Bool}
 use Rattle.std.proofs.lemmas.List.{append-nil, get_or_append_left, length-append}
 use Rattle.std.proofs.lemmas.List.Elements.{All-append}
 use Rattle.std.specs.Prelude.{None, is_some, ℤ}
-use Rattle.std.specs.List.{All, AllZip, Contains}
-use Rattle.io_caps.specs.declared.device.DeviceParts.{DeviceParts}
+use Rattle.std.specs.List.{All, Contains}
 use Rattle.packet_writer.specs.Heard.{sample_in}
 use Rattle.input_rule.specs.declared.view.Heard.{Heard}
 use Rattle.input_rule.specs.declared.view.Look.{Look}
 use Rattle.input_rule.specs.declared.view.View.{View}
 use Rattle.input_rule.specs.Views.{HasMissed, HasSeen, closed_of, listened, looked, saw}
-use Rattle.input_cells.specs.Agreement.{Agrees}
-use Rattle.packet_writer.specs.Packet.{Blocks}
-use Rattle.input_cells.specs.Faces.{GoesOn, Grows, GrowsAt, HasView, InputFace, IsReadOf, SeatFace, changed, face_of, heard_of, looks_of}
+use Rattle.input_cells.specs.Faces.{GoesOn, Grows, GrowsAt, HasView, InputFace, SeatFace, changed, face_of, heard_of, looks_of}
 use Rattle.input_cells.specs.Laws.{AgreesBefore, GrowsOn, KeepsMissed, KeepsSeen, StaysOfTable}
 
 -- ---- lists that go on

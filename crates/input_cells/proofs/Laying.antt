@@ -1,6 +1,5 @@
 -- How the tables of the inputs are laid out.
-use Rattle.std.proofs.Common.{◌≡◌, ℕ, zero, suc, ◌+◌, ◌-◌, ◌*◌, ◌<◌, ◌≤◌, List, [], ◌∷◌, ◌++◌, length, map, get_or, take, replicate, refl, sym, ap, ◌∙◌, subst, arith, mul-le-mul_right}
-use Rattle.std.specs.Prelude.{slice_get, Some, None}
+use Rattle.std.proofs.Common.{◌≡◌, ℕ, zero, suc, ◌+◌, ◌-◌, ◌*◌, ◌≤◌, List, [], ◌∷◌, length, take, replicate, refl, ◌∙◌, arith, mul-le-mul_right}
 use Rattle.io_caps.specs.declared.port.Input.{Input}
 use Rattle.map_entry.specs.Row.{channels_of}
 use Rattle.input_rule.specs.declared.view.Shape.{Shape}

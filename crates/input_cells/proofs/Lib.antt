@@ -9,3 +9,4 @@ pub mod Agreeing
 pub mod Starting
 pub mod Growing
 pub mod Copying
+pub mod Feeders

@@ -1,20 +1,15 @@
 -- Words and seats of one input's table.
-use Rattle.std.proofs.Common.{◌/◌, ◌%◌, ◌≡◌, ℕ, ◌+◌, ◌-◌, ◌*◌, ◌<◌, ◌≤◌, ◌^◌, List, [], ◌∷◌, ◌++◌, refl, sym, ap, ◌∙◌, subst, arith}
-use Rattle.std.proofs.lemmas.List.Elements.{All-nil, All-push}
+use Rattle.std.proofs.Common.{◌/◌, ◌%◌, ◌≡◌, ℕ, ◌+◌, ◌-◌, ◌*◌, ◌<◌, ◌^◌, ap, ◌∙◌, arith}
 use Rattle.std.proofs.lemmas.Nat.{div-mul-add, mod-mul-add}
 use Rattle.std.proofs.Common.{w32, to_z, of_z}
 use Rattle.std.proofs.lemmas.Int.{to_z-of_z}
 use lib.Signed.{mag}
-use mir.Val.{SFits}
-use Rattle.std.specs.List.{All}
 use Rattle.std.specs.Prelude.{Bool, ℤ}
 use Rattle.atomic_table.specs.Seated.{TableId}
 use Rattle.input_rule.specs.declared.view.Shape.{Shape}
 use Rattle.input_rule.specs.declared.view.View.{View}
-use Rattle.input_rule.specs.declared.view.Look.{Look}
-use Rattle.input_rule.specs.declared.view.Heard.{Heard}
-use Rattle.input_rule.specs.Words.{HasTick, block_len, block_start, presence, words_len}
-use Rattle.input_rule.specs.Views.{closed_of, listened, looked, newcomer, saw}
+use Rattle.input_rule.specs.Words.{HasTick, block_len, block_start, presence}
+use Rattle.input_rule.specs.Views.{listened, looked}
 use Rattle.input_rule.specs.Plays.{presence_tick, sample_place, sample_tick}
 use Rattle.input_cells.specs.Faces.{IsInput}
 

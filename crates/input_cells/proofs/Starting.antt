@@ -1,5 +1,5 @@
 -- The passes of a table that was just started.
-use Rattle.std.proofs.Common.{◌≡◌, ℕ, zero, suc, ◌+◌, ◌-◌, ◌<◌, ◌≤◌, List, [], ◌∷◌, length, map, get_or, replicate, refl, sym, ap, ◌∙◌, subst, arith, false}
+use Rattle.std.proofs.Common.{◌≡◌, ℕ, ◌+◌, List, [], ◌∷◌, length, map, get_or, replicate, refl, sym, ap, ◌∙◌, subst, arith, false}
 use Rattle.std.proofs.lemmas.List.{length-map}
 use Rattle.std.specs.Prelude.{Bool, Option, Some, is_none}
 use Rattle.std.specs.List.{All, AllZip}
@@ -44,8 +44,13 @@ module _ (table : List InputFace) (feeders : List (Option SeatFace)) (readers : 
 
 -- the table that they are of
 pub spare_of : (table : List InputFace) (spare : List SeatFace) → spare ≡ map unread table → map face_of spare ≡ table
-spare_of table spare is = ap (λ (l : List SeatFace). map face_of l) is ∙ faces_unread table
+spare_of table spare is =
+    ap (λ (l : List SeatFace). map face_of l) is ∙ faces_unread table
 
 -- no feeder's pass was given yet
-pub none_yet : (table : List InputFace) (feeders : List (Option SeatFace)) → feeders ≡ map (λ (t : InputFace). Some (unfed t)) table → (n : ℕ) → length table ≡ n → map is_none feeders ≡ replicate n false
-none_yet table feeders f n long = ap (λ (l : List (Option SeatFace)). map is_none l) f ∙ (none_given table ∙ ap (λ (m : ℕ). replicate {A = Bool} m false) long)
+pub none_yet : (table : List InputFace) (feeders : List (Option SeatFace))
+    → feeders ≡ map (λ (t : InputFace). Some (unfed t)) table → (n : ℕ) → length table ≡ n
+    → map is_none feeders ≡ replicate n false
+none_yet table feeders f n long =
+    ap (λ (l : List (Option SeatFace)). map is_none l) f
+    ∙ (none_given table ∙ ap (λ (m : ℕ). replicate {A = Bool} m false) long)

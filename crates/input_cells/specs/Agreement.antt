@@ -1,6 +1,6 @@
 -- That blocks agree with what a pass has seen. (This project's own.)
 use Rattle.std.specs.Prelude.{◌+◌, ◌==◌, ◌&&◌, ◌||◌, nat_le, nat_lt, ℕ, ◌≡◌, ◌*◌, ◌<◌, true, false}
-use Rattle.std.specs.Prelude.{List, [], ◌∷◌, length, zero, suc, Option, Some, None, IfSome, is_some}
+use Rattle.std.specs.Prelude.{List, [], ◌∷◌, length, zero, suc, Option, None, IfSome, is_some}
 use Rattle.std.specs.Prelude.{slice_index_or, Bool, ℤ}
 use Rattle.std.specs.List.{All, AllZip, Contains}
 use Rattle.io_caps.specs.declared.device.DeviceParts.{DeviceParts}

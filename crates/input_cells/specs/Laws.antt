@@ -1,7 +1,6 @@
 -- Laws on what passes know. (This project's own.)
-use Rattle.std.specs.Prelude.{ℕ, ◌≡◌, List}
+use Rattle.std.specs.Prelude.{ℕ, List}
 use Rattle.io_caps.specs.declared.device.DeviceParts.{DeviceParts}
-use Rattle.input_rule.specs.declared.view.View.{View}
 use Rattle.input_rule.specs.Views.{HasMissed, HasSeen}
 use Rattle.packet_writer.specs.Packet.{Blocks}
 use Rattle.input_cells.specs.Agreement.{Agrees}

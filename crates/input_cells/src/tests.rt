@@ -1,8 +1,11 @@
 //! Tables worked by hand, and that no call gives up where there is memory.
 
-ghost use Rattle.std.specs.Prelude.{◌≡◌, ◌<◌, ◌≤◌, ◌+◌, ◌^◌, length};
-ghost use Rattle.io_caps.specs.declared.limits.TheConstants.{LAP_TICKS};
-ghost use Rattle.input_cells.specs.Faces.{IsFeedOf, IsReadOf};
+ghost use Rattle.std.specs.Prelude.{◌≡◌, ◌↔◌, ◌<◌, IfOk, IsTrue, OnOk, ℕ, length, map};
+ghost use Rattle.input_rule.specs.Words.{HasTick};
+ghost use Rattle.packet_writer.specs.Packet.{FitOutput, RowFits, packet_length};
+ghost use Rattle.input_cells.specs.Agreement.{AreSeen};
+ghost use Rattle.input_cells.specs.Faces.{HasInput, HasShape, IsFeedOf, IsReadOf, face_of};
+ghost use Rattle.input_cells.specs.Shapes.{IsTableOf};
 
 use super::*;
 use io_caps::limits::LAP_TICKS;
@@ -10,6 +13,8 @@ use io_caps::{
     Device, DeviceParts, Input, Inputs, Labels, NoMemory, Output, Outputs, Parent, Rate, Routable,
     Text, Width,
 };
+use map_entry::Cell;
+use packet_writer::{OneRow, packet_len, write_packet};
 use std::alloc::Global;
 use std::test::Fail;
 
@@ -82,15 +87,26 @@ fn device(alloc: Global) -> Result<Device, Fail> {
 /// A table with the pass of its input's feeder and a reader's.
 #[derive(Drop)]
 struct Running {
+    device: Device,
+    from: u64,
+    ticks: u64,
     table: InputTable,
     feeder: FeedPass,
     reader: ReadPass,
+    ghost of_device: { IsTableOf device from ticks table },
     ghost feeds: { IsFeedOf table feeder },
     ghost reads: { IsReadOf table reader },
 }
 
 /// The passes of a table that was started with one reader, and that each is given once.
-fn passes(table: InputTable, mut feeds: Feeds) -> Result<Running, Fail>
+fn passes(
+    device: Device,
+    from: u64,
+    ticks: u64,
+    table: InputTable,
+    mut feeds: Feeds,
+) -> Result<Running, Fail>
+    requires table { IsTableOf device from ticks table }
     requires of { feeds.table ≡ table }
     requires input { 0 < length table }
 {
@@ -100,6 +116,9 @@ fn passes(table: InputTable, mut feeds: Feeds) -> Result<Running, Fail>
         return Err("no seat".into());
     }
     Ok(Running {
+        device,
+        from,
+        ticks,
         table,
         feeder,
         reader,
@@ -110,11 +129,12 @@ fn start(alloc: Global, from: u64, ticks: u64) -> Result<Running, Fail> {
     if ticks > LAP_TICKS || from > LAP_TICKS {
         return Err("a table's ticks".into());
     }
-    let (table, feeds) = InputTable::start(alloc, &device(alloc)?, from, ticks, 1)?;
+    let device = device(alloc)?;
+    let (table, feeds) = InputTable::start(alloc, &device, from, ticks, 1)?;
     if table.feeders() != 2 {
         return Err("an input and the pace".into());
     }
-    passes(table, feeds)
+    passes(device, from, ticks, table, feeds)
 }
 
 /// What is done at a table.
@@ -262,6 +282,123 @@ fn ticks_by_hand(rt: HostRuntime) -> Result<(), Fail> {
     }
     Ok(())
 }
+
+// ---- a packet of what the reader sees
+
+/// Whether a row has a cell for each of so many channels, and these name channels that are there.
+fn fits(inputs: &[Input], channels: usize, row: &[Cell]) -> bool
+    ensures { IsTrue result ↔ RowFits inputs.now channels row.now }
+{
+    row.len() == channels && row.iter().all(|cell| cell.is_channel_there(inputs))
+}
+
+/// Looks at the first input's block of a tick: whether it is there.
+fn see(table: &InputTable, reader: &mut ReadPass, tick: u64) -> [bool; 1]
+    requires reads { IsReadOf table.now reader.old }
+    requires input { HasInput table.now 0 }
+    requires tick { HasShape table.now 0 (λ s. HasTick s tick) }
+    ensures reads { IsReadOf table.now reader.new }
+    ensures seen { AreSeen table.now reader.new tick result }
+{
+    [reader.look(table, 0, tick)]
+}
+
+/// Writes the packet of the first output at a tick, by a row and the blocks that the reader saw.
+fn write(
+    device: &Device,
+    table: &InputTable,
+    reader: &mut ReadPass,
+    tick: u64,
+    flags: &[bool],
+    row: &[Cell],
+    out: &mut [u8],
+)
+    requires table { (from : ℕ) × (ticks : ℕ) × IsTableOf device.now from ticks table.now }
+    requires reads { IsReadOf table.now reader.old }
+    requires seen { AreSeen table.now reader.old tick flags.now }
+    requires there { 0 < length device.now.outputs }
+    requires row { FitOutput device.now 0 (λ frame. row.now) }
+    requires room { length out.old ≡ packet_length device.now 0 }
+    ensures reads { IsReadOf table.now reader.new }
+{
+    let mut source = SeenSamples::new(table, reader, tick, flags);
+    source.agree();
+    write_packet(&mut source, device, 0, &OneRow::new(row), tick, out);
+}
+
+impl Running {
+    /// The packet of the first output, where it can be written.
+    fn packet(&mut self, tick: u64, row: &[Cell], out: &mut [u8]) -> Told {
+        let device = &self.device;
+        let table = &self.table;
+        if table.inputs() == 0 || !table.has_tick(0, tick) || device.outputs() == 0 {
+            return Told::No;
+        }
+        if !fits(device.input_slice(), device.output(0).channels(), row) {
+            return Told::No;
+        }
+        if out.len() != packet_len(device, 0) {
+            return Told::No;
+        }
+        let flags = see(table, &mut self.reader, tick);
+        write(device, table, &mut self.reader, tick, &flags, row, out);
+        Told::There(flags[0])
+    }
+}
+
+#[test]
+fn packets_of_a_table(rt: HostRuntime) -> Result<(), Fail> {
+    let alloc = rt.alloc();
+    let mut running = start(alloc, 0, 1)?;
+    let row = [
+        Cell::From {
+            input: 0,
+            channel: 1,
+        },
+        Cell::Unrouted,
+    ];
+    let mut out = [9u8; 20];
+    assert_eq!(rt; running.packet(0, &row, &mut out), Told::There(false));
+    assert_eq!(rt; &out[12..], [0u8; 8].as_slice());
+    assert_eq!(rt; running.take(alloc, Step::Set(0, FRAMES))?, Told::Done);
+    assert_eq!(rt; running.packet(0, &row, &mut out), Told::There(true));
+    assert_eq!(rt;
+        &out[12..],
+        [0x22u8, 0x22, 0, 0, 0x44, 0x44, 0, 0].as_slice()
+    );
+    Ok(())
+}
+
+// ---- the end of a table
+
+/// The passes of all feeders.
+fn feeders(alloc: Global, table: &InputTable, feeds: &mut Feeds) -> Result<FeedPasses, Fail>
+    requires { feeds.old.table ≡ table.now }
+    ensures passes { IfOk result (λ made. map face_of made ≡ table.now) }
+    ensures of { OnOk result (feeds.new.table ≡ table.now) }
+{
+    let mut made = FeedPasses::new(alloc);
+    if table.feeders() > u8::MAX as usize {
+        return Err("fewer inputs".into());
+    }
+    for input in 0..table.feeders() as u8 {
+        made.push(feeds.feed(table, input)?)?;
+    }
+    Ok(made)
+}
+
+#[test]
+fn table_ends(rt: HostRuntime) -> Result<(), Fail> {
+    let alloc = rt.alloc();
+    let (table, mut feeds) = InputTable::start(alloc, &device(alloc)?, 0, 1, 1)?;
+    let feeders = feeders(alloc, &table, &mut feeds)?;
+    let mut readers = ReadPasses::new(alloc);
+    readers.push(feeds.reader(&table)?)?;
+    table.end(feeders, readers);
+    Ok(())
+}
+
+// ---- threads
 
 fn goes_to_a_thread<T: Send + Drop>() {}
 

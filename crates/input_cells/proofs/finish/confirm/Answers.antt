@@ -1,5 +1,4 @@
-use Rattle.std.proofs.Common.{◌≡◌, ℕ, List, length, set, sym, subst, ap, ◌∙◌, get_or}
-use Rattle.input_cells.specs.Faces.{SeatFace}
+use Rattle.std.proofs.Common.{◌≡◌, ℕ, length, set, sym, subst, ap, ◌∙◌, get_or}
 use Rattle.input_cells.proofs.Ending.{IsConfirmed, confirmed_more}
 use Rattle.input_cells.proofs.finish.confirm.Goals as goal
 

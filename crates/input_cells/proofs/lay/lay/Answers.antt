@@ -1,7 +1,5 @@
-use Rattle.std.proofs.Common.{◌≡◌, ℕ, ◌+◌, ◌++◌, ◌∷◌, [], ◌∙◌, List, map, sym, ap, refl, arith}
+use Rattle.std.proofs.Common.{◌++◌, ◌∷◌, [], ◌∙◌, sym, arith}
 use Rattle.std.proofs.lemmas.List.FromFn.{map-range_with_len_more}
-use Rattle.std.specs.List.{range_with_len}
-use Rattle.input_rule.specs.declared.view.Shape.{Shape}
 use Rattle.input_cells.specs.Shapes.{shape_of}
 use Rattle.input_cells.proofs.lay.lay.Goals as goal
 

@@ -1,4 +1,4 @@
-use Rattle.std.proofs.Common.{◌≡◌, ℕ, ◌+◌, ◌-◌, ◌*◌, ◌≤◌, List, ◌∷◌, replicate, ap, subst, arith}
+use Rattle.std.proofs.Common.{◌≡◌, ℕ, ◌+◌, ◌-◌, ◌*◌, ◌≤◌, ◌∷◌, replicate, ap, subst}
 use Rattle.map_entry.specs.Row.{channels_of}
 use Rattle.input_cells.specs.Shapes.{BeginsUnfed, shape_of}
 use Rattle.input_cells.proofs.Giving.{if_ok}

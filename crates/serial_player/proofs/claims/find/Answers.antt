@@ -27,9 +27,11 @@ returns-clause-each c = λ i there.
     let found = c.look_at_marked-untold.new.flags in
     let after = c.look_at_marked-untold.new.looks in
     let told = c.is_none.ensures ∙ ap not c.if-prove.false in
-    let set_told : (j : ℕ) → j < length flags → flag_of flags j ≡ true → flag_of found j ≡ is_some (placed after.table.now after.place j) =
+    let set_told : (j : ℕ) → j < length flags → flag_of flags j ≡ true
+    → flag_of found j ≡ is_some (placed after.table.now after.place j) =
     when_none c.look_at_marked-untold.result told look.marked in
-    let unset_told : (j : ℕ) → j < length flags → flag_of flags j ≡ false → flag_of found j ≡ false = when_none c.look_at_marked-untold.result told look.other in
+    let unset_told : (j : ℕ) → j < length flags → flag_of flags j ≡ false → flag_of found j ≡ false =
+    when_none c.look_at_marked-untold.result told look.other in
     let seen = look.kept i (is_some (placed tick.table.now tick.place i)) refl in
     flag_is (is_named n (λ f. row) i) here (flag_of found i) (flag_of flags i) marked
     (λ set. set_told i within set ∙ sym seen ∙ same) (λ none. unset_told i within none)

@@ -1,4 +1,4 @@
-use Rattle.std.proofs.Common.{◌≡◌, ℕ, ◌∙◌, List, length, sym, ap, subst}
+use Rattle.std.proofs.Common.{◌≡◌, ◌∙◌, List, length, sym, ap, subst}
 use Rattle.std.specs.Prelude.{ℤ}
 use Rattle.input_rule.specs.Words.{HasTick, block_len}
 use Rattle.input_cells.specs.Faces.{SeatFace}

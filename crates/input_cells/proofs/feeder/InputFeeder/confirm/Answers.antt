@@ -1,4 +1,4 @@
-use Rattle.std.proofs.Common.{◌≡◌, ◌<◌, ◌∙◌, sym, ap, subst}
+use Rattle.std.proofs.Common.{◌∙◌, sym, ap, subst}
 use Rattle.input_rule.specs.declared.view.View.{View}
 use Rattle.input_rule.proofs.Steps.{learns_allowed, takes_in_allowed}
 use Rattle.input_cells.specs.Agreement.{AreTrue}

@@ -1,8 +1,7 @@
-use Rattle.std.proofs.Common.{refl, ℕ, ◌≡◌, ◌+◌, ◌*◌, ◌<◌, ◌≤◌, ◌∙◌, sym, ap, subst, arith}
-use Rattle.input_rule.specs.Words.{block_len, words_len}
+use Rattle.std.proofs.Common.{refl, ℕ, ◌*◌, ◌∙◌, sym, ap, arith}
+use Rattle.input_rule.specs.Words.{block_len}
 use Rattle.input_cells.proofs.Seats.{some_word}
 use Rattle.input_rule.proofs.Steps.{writes_allowed}
-use Rattle.input_cells.specs.Faces.{InputFace, SeatFace}
 use Rattle.input_cells.proofs.Feeding.{closing_may, feeds_on, room_for, seat_id, stored}
 use Rattle.input_cells.proofs.feeder.InputFeeder.store_closing.Goals as goal
 

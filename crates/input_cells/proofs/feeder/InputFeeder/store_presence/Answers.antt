@@ -1,9 +1,9 @@
-use Rattle.std.proofs.Common.{ℕ, ◌≡◌, ◌+◌, ◌<◌, ◌≤◌, ◌∙◌, sym, ap, subst, arith}
+use Rattle.std.proofs.Common.{ℕ, ◌≡◌, ◌<◌, ◌∙◌, sym, ap, subst}
 use Rattle.input_rule.specs.declared.view.Shape.{Shape}
 use Rattle.input_rule.specs.Words.{presence, words_len}
 use Rattle.input_rule.proofs.Later.{presence_inside}
 use Rattle.input_rule.proofs.Steps.{writes_allowed}
-use Rattle.input_cells.specs.Faces.{InputFace, SeatFace}
+use Rattle.input_cells.specs.Faces.{InputFace}
 use Rattle.input_cells.proofs.Feeding.{feeds_on, pass_shape, presence_may, room_for, seat_id, stored}
 use Rattle.input_cells.proofs.feeder.InputFeeder.store_presence.Goals as goal
 

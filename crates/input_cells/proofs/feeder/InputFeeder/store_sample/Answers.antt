@@ -2,10 +2,10 @@ use Rattle.std.proofs.Common.{ℕ, ◌≡◌, ◌+◌, ◌<◌, ◌≤◌, ◌�
 use Rattle.input_rule.specs.declared.view.Shape.{Shape}
 use Rattle.std.proofs.Common.{w32}
 use Rattle.std.proofs.lemmas.Int.{to_z-of_z}
-use Rattle.input_rule.specs.Words.{block_len, block_start, sample_word, words_len}
+use Rattle.input_rule.specs.Words.{block_len, block_start, words_len}
 use Rattle.input_rule.proofs.Later.{sample_inside}
 use Rattle.input_rule.proofs.Steps.{writes_allowed}
-use Rattle.input_cells.specs.Faces.{InputFace, SeatFace}
+use Rattle.input_cells.specs.Faces.{InputFace}
 use Rattle.input_cells.proofs.Feeding.{feeds_on, pass_shape, room_for, sample_may, seat_id, stored}
 use Rattle.input_cells.proofs.feeder.InputFeeder.store_sample.Goals as goal
 

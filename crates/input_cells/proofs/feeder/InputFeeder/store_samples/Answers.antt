@@ -1,4 +1,4 @@
-use Rattle.std.proofs.Common.{◌≡◌, ◌+◌, ◌<◌, rules, get_or, ℤ, subst, w32, to_z, of_z}
+use Rattle.std.proofs.Common.{rules, get_or, ℤ, subst, w32}
 use Rattle.std.specs.Prelude.{pos}
 use Rattle.std.proofs.lemmas.Int.{to_z-of_z}
 use mir.Val.{SFits}

@@ -1,7 +1,6 @@
-use Rattle.std.proofs.Common.{◌≡◌, ℕ, ◌<◌, ◌∙◌, List, length, map, false, true, get_or, sym, ap, subst, arith, ◌↔◌}
-use Rattle.std.specs.Prelude.{Bool, Result, IfOk, IsErr, Some, slice_get, slice_set, is_none}
-use Rattle.io_caps.specs.declared.seat.NoSeat.{NoSeat}
-use Rattle.input_cells.specs.Faces.{FeedsFace, InputFace, IsFeedOf, SeatFace, face_of}
+use Rattle.std.proofs.Common.{◌≡◌, ◌<◌, ◌∙◌, List, length, map, false, true, get_or, sym, ap, subst, arith, ◌↔◌}
+use Rattle.std.specs.Prelude.{Bool, IfOk, IsErr, Some, slice_get, slice_set}
+use Rattle.input_cells.specs.Faces.{FeedsFace, InputFace, IsFeedOf, face_of}
 use Rattle.input_cells.specs.contracts.feeds.Feeds.{the_view}
 use Rattle.input_cells.proofs.Giving.{as_kept, given_after, given_err, given_input, given_pass, given_unfed, kept_after, on_ok}
 use Rattle.input_cells.proofs.feeds.Feeds.feed.Goals as goal

@@ -1,4 +1,4 @@
-use Rattle.std.proofs.Common.{◌≡◌, ◌<◌, ◌∙◌, sym, ap, arith}
+use Rattle.std.proofs.Common.{◌∙◌, sym, ap}
 use Rattle.input_rule.proofs.Steps.{hands_allowed}
 use Rattle.input_cells.proofs.Seats.{some_word}
 use Rattle.input_cells.proofs.one.InputReader.again.Goals as goal

@@ -1,4 +1,4 @@
-use Rattle.std.proofs.Common.{◌≡◌, ℕ, ◌+◌, ◌*◌, ◌<◌, List, set, sym, refl, subst, ℤ}
+use Rattle.std.proofs.Common.{◌+◌, set, sym, refl, subst, ℤ}
 use Rattle.input_cells.proofs.Copying.{IsCopied, copied_more}
 use Rattle.input_cells.proofs.Seats.{whole}
 use Rattle.input_cells.proofs.one.InputReader.copy.Goals as goal

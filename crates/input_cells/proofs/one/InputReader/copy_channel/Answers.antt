@@ -1,4 +1,4 @@
-use Rattle.input_cells.proofs.Copying.{copied_channel, no_room}
+use Rattle.input_cells.proofs.Copying.{copied_channel}
 use Rattle.input_cells.proofs.one.InputReader.copy_channel.Goals as goal
 
 pub returns-then-has_room-clause-value : goal.returns-then-has_room-clause-value

@@ -7,7 +7,7 @@ use Rattle.input_rule.specs.declared.view.View.{View}
 use Rattle.input_rule.specs.Views.{HasSeen, listened}
 use Rattle.input_rule.specs.Plays.{sample_place, sample_tick}
 use Rattle.std.specs.List.{Contains}
-use Rattle.input_rule.specs.Words.{HasTick, block_len, block_start, sample_word}
+use Rattle.input_rule.specs.Words.{HasTick, block_len, block_start}
 use Rattle.input_rule.proofs.Steps.{hears_allowed}
 use Rattle.input_cells.proofs.Seats.{listened_at, place_back, tick_back}
 use Rattle.input_cells.specs.Faces.{InputFace, SeatFace}

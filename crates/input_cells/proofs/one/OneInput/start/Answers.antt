@@ -1,6 +1,5 @@
-use Rattle.std.proofs.Common.{◌≡◌, ℕ, List, [], refl, ◌∙◌, sym, ap, subst}
+use Rattle.std.proofs.Common.{ℕ, List, [], refl, sym, ap, subst}
 use Rattle.atomic_table.specs.Table.{opening}
-use Rattle.input_rule.specs.declared.view.View.{View}
 use Rattle.input_rule.specs.Rule.{Keeps}
 use Rattle.input_rule.specs.Views.{feeder}
 use Rattle.input_rule.specs.Words.{first_words}

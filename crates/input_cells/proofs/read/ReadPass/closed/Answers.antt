@@ -1,4 +1,4 @@
-use Rattle.std.proofs.Common.{◌≡◌, ℕ, ◌+◌, ◌*◌, ◌<◌, ◌≤◌, ◌∙◌, length, refl, sym, ap, subst, arith}
+use Rattle.std.proofs.Common.{◌≤◌, refl, sym, subst}
 use Rattle.input_rule.specs.declared.view.View.{View}
 use Rattle.input_rule.specs.Views.{closed_of, saw}
 use Rattle.input_cells.specs.Faces.{Grows}

@@ -1,4 +1,4 @@
-use Rattle.std.proofs.Common.{◌≡◌, ℕ, ◌<◌, ◌∙◌, List, length, sym, ap, subst, arith, get_or, set}
+use Rattle.std.proofs.Common.{List, subst, set}
 use Rattle.input_rule.specs.declared.view.View.{View}
 use Rattle.input_rule.specs.Views.{HasSeen}
 use Rattle.input_rule.specs.Words.{HasTick}

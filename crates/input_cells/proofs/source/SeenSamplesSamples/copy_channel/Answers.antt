@@ -1,6 +1,5 @@
-use Rattle.std.proofs.Common.{◌≡◌, ℕ, ℤ, List, Option, length, refl, sym, ap, ◌∙◌, true, false}
+use Rattle.std.proofs.Common.{ℤ, List, Option, length, refl, sym, ap, ◌∙◌}
 use Rattle.packet_writer.specs.Heard.{channel_samples}
-use Rattle.input_cells.specs.Agreement.{AreHeard, AreSeen}
 use Rattle.input_cells.proofs.Copying.{heard_before, seen_of, sights_on, silent}
 use Rattle.input_cells.proofs.Growing.{grows_on, stays_of_table}
 use Rattle.input_cells.proofs.source.SeenSamplesSamples.copy_channel.Goals as goal
@@ -29,7 +28,13 @@ returns-then-is_set-clause-kept c b h = heard_before _ _ _ _ b c.copy_channel.en
 
 pub returns-then-is_set-clause-stays : goal.returns-then-is_set-clause-stays
 returns-then-is_set-clause-stays c =
-    record { lender = refl; table = refl; tick = refl; flags = refl; grows = λ first h. grows_on first _ _ h c.copy_channel.ensures.grows }
+    record {
+      lender = refl;
+      table = refl;
+      tick = refl;
+      flags = refl;
+      grows = λ first h. grows_on first _ _ h c.copy_channel.ensures.grows;
+    }
 
 pub returns-else-is_set-clause-value : goal.returns-else-is_set-clause-value
 returns-else-is_set-clause-value c b h =

@@ -1,10 +1,6 @@
-use Rattle.std.proofs.Common.{rules, ◌≡◌, ℕ, ◌<◌, List, [], length, map, sym, ap, subst, ◌∙◌}
-use Rattle.std.proofs.lemmas.List.{nil_from_length}
-use Rattle.std.specs.List.{All}
-use Rattle.input_cells.specs.Agreement.{Agrees, AreTrueOf, blocks_set}
-use Rattle.input_cells.specs.Faces.{InputFace, IsReadOf, SameWords, SeatFace, face_of, heard_of, looks_of}
+use Rattle.std.proofs.Common.{rules}
 use Rattle.input_cells.proofs.Agreeing.{all_agree}
-use Rattle.input_cells.proofs.Ending.{AreConfirmed, all_confirmed, all_more}
+use Rattle.input_cells.proofs.Ending.{all_confirmed, all_more}
 use Rattle.input_cells.proofs.table.InputTable.end.Goals as goal
 
 pub loop-reader-preserved : goal.loop-reader-preserved

@@ -1,4 +1,3 @@
-use Rattle.std.proofs.Common.{◌<◌}
 use Rattle.input_rule.specs.declared.view.Shape.{Shape}
 use Rattle.input_rule.specs.Words.{HasTick}
 use Rattle.input_cells.proofs.Passes.{one_shape, shape_there}

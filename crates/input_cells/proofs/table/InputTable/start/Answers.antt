@@ -1,4 +1,4 @@
-use Rattle.std.proofs.Common.{◌≡◌, ℕ, ◌+◌, ◌∙◌, List, length, map, subst, arith}
+use Rattle.std.proofs.Common.{◌≡◌, ◌+◌, ◌∙◌, List, length, map, subst, arith}
 use Rattle.std.specs.List.{All}
 use Rattle.input_cells.specs.Faces.{InputFace, unread}
 use Rattle.input_cells.proofs.Starting.{are_feeds, as_inputs, none_yet, numbered_table, spare_of}

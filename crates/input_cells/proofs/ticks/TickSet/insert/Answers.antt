@@ -1,4 +1,4 @@
-use Rattle.std.proofs.Common.{◌≡◌, ◌<◌, ◌/◌, ◌*◌, ℕ, List, length, sym, ap, ◌∙◌, arith}
+use Rattle.std.proofs.Common.{◌*◌, ℕ, List, ap, ◌∙◌}
 use Rattle.input_cells.specs.Ticks.{bit_of}
 use Rattle.input_cells.proofs.Bits.{placed_here, placed_others, word_inside}
 use Rattle.input_cells.proofs.ticks.TickSet.insert.Goals as goal
