@@ -1,0 +1,4 @@
+pub mod TableLemmas
+pub mod MatchLemmas
+pub mod TableGood
+pub mod PartLemmas

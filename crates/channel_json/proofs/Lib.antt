@@ -1,0 +1,9 @@
+pub mod UuidLemmas
+pub mod Shown
+pub mod Floats
+pub mod ValueLemmas
+pub mod NumberLemmas
+pub mod MomentLemmas
+pub mod FoundLemmas
+pub mod RequestLemmas
+pub mod DeviceLemmas

@@ -1,0 +1,9 @@
+pub mod Values
+pub mod Uuids
+pub mod Fields
+pub mod Cells
+pub mod Activations
+pub mod Resources
+pub mod Errors
+pub mod Requests
+pub mod Devices

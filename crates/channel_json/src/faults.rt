@@ -1,0 +1,73 @@
+//! Why a device or a request isn't read.
+
+use io_caps::{DeviceFault, NoMemory, TryCopy};
+use map_entry::SetupFault;
+use thiserror::Error;
+
+/// Why a device isn't read, in this order.
+#[derive(Clone, Copy, Debug, PartialEq, Eq, Error)]
+pub enum DeviceJsonFault {
+    /// The text is no JSON value (RFC 8259), or one that nests deeper than 127.
+    #[error("the text is not JSON")]
+    NotJson,
+    /// A key is missing, a value has another type, a number is no whole number of its field's
+    /// range, a UUID's text has no reading, or an input's id isn't there.
+    #[error("the value is not a device")]
+    Shape,
+    /// The device breaks a limit.
+    #[error("{0}")]
+    Device(DeviceFault),
+    /// The base rows don't fit the device.
+    #[error("{0}")]
+    Rows(SetupFault),
+}
+
+/// Where a request isn't as it should be, in the order in which it is looked at.
+#[derive(Clone, Copy, Debug, PartialEq, Eq)]
+pub enum Place {
+    /// The whole is no object.
+    Top,
+    /// `activation` is no object.
+    Activation,
+    /// `mode` is none of the three words.
+    Mode,
+    /// `requested_time` of a scheduled activation is no time.
+    Time,
+    /// `action` is no object.
+    Action,
+    /// What stands under an output's id is no object.
+    Output,
+    /// A channel's key is no number up to 255, or what stands under it is no cell.
+    Cell,
+}
+
+/// Why a request isn't read: the first that applies, where the keys of `action` and of each output
+/// are looked at in the order of their bytes.
+#[derive(Clone, Copy, Debug, PartialEq, Eq)]
+pub enum BodyFault {
+    /// The text is no JSON value (RFC 8259), or one that nests deeper than 127.
+    NotJson,
+    Shape(Place),
+    /// An output's id isn't there.
+    UnknownOutput,
+    /// An input's id isn't there.
+    UnknownInput,
+}
+
+impl TryCopy for DeviceJsonFault {
+    fn copy(&self) -> Result<DeviceJsonFault, NoMemory> {
+        Ok(*self)
+    }
+}
+
+impl TryCopy for Place {
+    fn copy(&self) -> Result<Place, NoMemory> {
+        Ok(*self)
+    }
+}
+
+impl TryCopy for BodyFault {
+    fn copy(&self) -> Result<BodyFault, NoMemory> {
+        Ok(*self)
+    }
+}
