@@ -6,6 +6,7 @@ mod client;
 mod end;
 mod lay;
 mod memory;
+mod numbers;
 mod passes;
 mod publisher;
 mod read;
