@@ -3,7 +3,7 @@ use Rattle.std.specs.Prelude.{◌≡◌, ℕ, List, [], ◌++◌, Bool, true, eq
 use Rattle.http_wire.specs.Response.{response_text}
 use Rattle.http_wire.specs.declared.request.HttpRequest.{HttpRequest}
 use Rattle.http_wire.specs.declared.response.Extra.{Extra}
-use Rattle.http_wire.specs.declared.response.Extra.TheVariants.{Plain, Preflight as PreflightLines}
+use Rattle.http_wire.specs.declared.response.Extra.TheVariants.{Nothing, Preflight as PreflightLines}
 use Rattle.io_caps.specs.declared.device.DeviceParts.{DeviceParts}
 use Rattle.map_entry.specs.Setup.{SetupParts}
 use Rattle.plain_book.specs.Calls.{action_of, when_of}
@@ -42,12 +42,12 @@ said_wrong wrong = said (status_of wrong) (extra_of wrong) (error_text (status_o
 -- the pending activation of an id, or that there is none
 abbrev pub said_item : DeviceParts → Option PendingItem → Said
 said_item device None = said_wrong NoActivation
-said_item device (Some item) = said 200 Plain (item_text device item)
+said_item device (Some item) = said 200 Nothing (item_text device item)
 
 -- the pending activations: all, or the one that is asked for
 abbrev pub said_pending : DeviceParts → Part → List PendingItem → Said
 said_pending device (Item id) items = said_item device (find (λ item. eqb item.id id) items)
-said_pending device part items = said 200 Plain (pending_text device items)
+said_pending device part items = said 200 Nothing (pending_text device items)
 
 -- the one output that is asked for, or all
 abbrev pub only_of : Part → Option ℕ
@@ -56,10 +56,10 @@ only_of part = None
 
 -- an accepted activation is shown with what was asked; a deletion leaves nothing to show
 abbrev pub said_reply : DeviceParts → Request → Part → Reply → Said
-said_reply device request part (Activated id tick) = said 200 Plain (accepted_text device id (when_of request) tick (action_of request))
-said_reply device request part (Scheduled id tick) = said 202 Plain (accepted_text device id (when_of request) tick (action_of request))
-said_reply device request part (Deleted id) = said 204 Plain []
-said_reply device request part (Active view) = said 200 Plain (active_text device view (only_of part))
+said_reply device request part (Activated id tick) = said 200 Nothing (accepted_text device id (when_of request) tick (action_of request))
+said_reply device request part (Scheduled id tick) = said 202 Nothing (accepted_text device id (when_of request) tick (action_of request))
+said_reply device request part (Deleted id) = said 204 Nothing []
+said_reply device request part (Active view) = said 200 Nothing (active_text device view (only_of part))
 said_reply device request part (Pending items) = said_pending device part items
 said_reply device request part (Refusal refusal) = said_wrong (Refused refusal)
 
@@ -74,7 +74,7 @@ said_asked device request part (Some reply) = said_reply device request part rep
 abbrev pub said_by : DeviceParts → Plan → Option Reply → Said
 said_by device Preflight reply = said 200 PreflightLines []
 said_by device (Refuse wrong) reply = said_wrong wrong
-said_by device (Show resource) reply = said 200 Plain (resource_text device resource)
+said_by device (Show resource) reply = said 200 Nothing (resource_text device resource)
 said_by device (Ask request part) reply = said_asked device request part reply
 
 -- the bytes of what is said, and whether the connection ends behind it

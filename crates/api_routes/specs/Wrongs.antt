@@ -1,7 +1,7 @@
 -- Statuses and texts of errors.
 use Rattle.std.specs.Prelude.{ℕ, ◌==◌, List, if◌then◌else◌, codes}
 use Rattle.http_wire.specs.declared.response.Extra.{Extra}
-use Rattle.http_wire.specs.declared.response.Extra.TheVariants.{Plain}
+use Rattle.http_wire.specs.declared.response.Extra.TheVariants.{Nothing}
 use Rattle.map_entry.specs.declared.fault.RowFault.{RowFault}
 use Rattle.map_entry.specs.declared.fault.RowFault.TheVariants.{Input as NoInput, Channel as NoChannel, NotRoutable, Block, Order}
 use Rattle.plain_book.specs.declared.replies.Refusal.{Refusal}
@@ -91,4 +91,4 @@ text_of NoMemory = codes "no memory"
 -- what is said besides: the methods that there are
 abbrev pub extra_of : Wrong → Extra
 extra_of (NoMethod methods) = methods
-extra_of wrong = Plain
+extra_of wrong = Nothing

@@ -6,7 +6,7 @@ ghost use Rattle.http_wire.specs.Response.{IsStatus};
 ghost use Rattle.api_routes.specs.Answer.{said, said_item, said_pending, said_reply, said_wrong, only_of, text_said};
 ghost use Rattle.channel_json.specs.Activations.{accepted_text, active_text};
 ghost use Rattle.channel_json.specs.Resources.{IsThere, resource_text};
-ghost use Rattle.http_wire.specs.declared.response.Extra.TheVariants.{Plain, Preflight};
+ghost use Rattle.http_wire.specs.declared.response.Extra.TheVariants.{Nothing, Preflight};
 ghost use Rattle.plain_book.specs.Calls.{action_of, when_of};
 
 use crate::plan::Part;
@@ -30,11 +30,11 @@ pub(crate) struct Said {
 
 /// What is said with a body and nothing besides.
 fn plain(status: u16, body: Vec<u8>) -> Said
-    ensures { result ≡ said status Plain body.items }
+    ensures { result ≡ said status Nothing body.items }
 {
     Said {
         status,
-        extra: Extra::Plain,
+        extra: Extra::Nothing,
         body: Bytes::from_vec(body),
     }
 }
@@ -71,7 +71,7 @@ pub(crate) fn said_resource(
     resource: Resource,
 ) -> Result<Said, NoMemory>
     requires { IsThere device.now resource }
-    ensures { IfOk result (λ made. made ≡ said 200 Plain (resource_text device.now resource)) }
+    ensures { IfOk result (λ made. made ≡ said 200 Nothing (resource_text device.now resource)) }
 {
     let mut body = Vec::new(alloc);
     resource_body(alloc, device, resource, &mut body)?;
@@ -87,7 +87,7 @@ fn said_accepted(
     tick: u64,
     request: &Request,
 ) -> Result<Said, NoMemory>
-    ensures { IfOk result (λ made. made ≡ said status Plain
+    ensures { IfOk result (λ made. made ≡ said status Nothing
         (accepted_text device.now id (when_of request.now) tick (action_of request.now))) }
 {
     let mut body = Vec::new(alloc);
@@ -159,7 +159,7 @@ fn said_active(
     view: &ActiveView,
     part: Part,
 ) -> Result<Said, NoMemory>
-    ensures { IfOk result (λ made. made ≡ said 200 Plain
+    ensures { IfOk result (λ made. made ≡ said 200 Nothing
         (active_text device.now view.now (only_of part))) }
 {
     let mut body = Vec::new(alloc);

@@ -144,7 +144,7 @@ impl Wrong {
             | Wrong::NoActivation
             | Wrong::Refused(_)
             | Wrong::Stream(_)
-            | Wrong::NoMemory => Extra::Plain,
+            | Wrong::NoMemory => Extra::Nothing,
         }
     }
 }
