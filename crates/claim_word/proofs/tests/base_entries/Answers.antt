@@ -1,7 +1,6 @@
-use Rattle.std.proofs.Common.{◌≡◌, ℕ, ◌+◌, ◌≤◌, List, [], ◌∷◌, ◌++◌, length, sym, ap, ◌∙◌, subst, arith}
+use Rattle.std.proofs.Common.{◌≡◌, ℕ, ◌+◌, List, length, sym, ap, ◌∙◌, subst, arith}
 use Rattle.map_entry.specs.declared.entry.Entry.{Entry}
 use Rattle.map_entry.specs.Setup.{SetupParts, IsSetup}
-use Rattle.claim_word.specs.Starts.{IsBase}
 use Rattle.claim_word.proofs.BaseRows.{AreFirst, first_base, first_more, first_none}
 use Rattle.claim_word.proofs.tests.base_entries.Goals as goal
 

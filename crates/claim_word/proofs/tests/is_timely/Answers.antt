@@ -1,4 +1,4 @@
-use Rattle.std.proofs.Common.{◌≡◌, ℕ, ◌^◌, ◌<◌, length, sym, subst, arith}
+use Rattle.std.proofs.Common.{ℕ, ◌^◌, ◌<◌, length, sym, subst, arith}
 use Rattle.map_entry.specs.Tick.{first_tick}
 use Rattle.claim_word.proofs.Bounds.{first_tick-few}
 use Rattle.claim_word.proofs.tests.is_timely.Goals as goal
