@@ -1,5 +1,5 @@
 -- The base rows of a setup, as entries from the first tick on: a table may begin with them.
-use Rattle.std.proofs.Common.{◌≡◌, ℕ, ◌+◌, ◌/◌, ◌<◌, ◌≤◌, Bool, true, false, List, [], ◌∷◌, ◌++◌, length, get_or, refl, sym, ap, ◌∙◌, subst, arith, length-append}
+use Rattle.std.proofs.Common.{◌≡◌, ℕ, ◌+◌, ◌<◌, ◌≤◌, true, false, List, [], ◌∷◌, ◌++◌, length, get_or, refl, sym, ap, ◌∙◌, arith, length-append}
 use Rattle.std.specs.Prelude.{Option, Some, None, IsSomeAnd}
 use Rattle.std.specs.List.{All}
 use Rattle.std.proofs.lemmas.Bool.{true≢false}
@@ -9,15 +9,13 @@ use Rattle.std.proofs.lemmas.List.Elements.{All-nil, All-push, All-weaker}
 use mathlib.Core.Logic.{dite}
 use native.Mathlib.Decide.{ℕ_discrete}
 use Rattle.io_caps.specs.declared.device.DeviceParts.{DeviceParts}
-use Rattle.io_caps.specs.declared.limits.TheConstants.{MOST_BASE_ENTRIES, MOST_OUTPUTS}
 use Rattle.map_entry.specs.declared.cell.Cell.{Cell}
 use Rattle.map_entry.specs.declared.entry.Entry.{Entry}
-use Rattle.map_entry.specs.Entry.{due, rules, selected, IsEntryOk, HasRowsFrom}
-use Rattle.map_entry.specs.Row.{channels_of_output, IsRowOf}
+use Rattle.map_entry.specs.Entry.{due, rules, selected, IsEntryOk}
+use Rattle.map_entry.specs.Row.{channels_of_output}
 use Rattle.map_entry.specs.Setup.{SetupParts, IsSetup}
 use Rattle.map_entry.proofs.Entries.{selected_row}
 use Rattle.map_entry.proofs.Selection.{selected-missed}
-use Rattle.claim_rule.specs.Rule.{Rises}
 use Rattle.claim_rule.specs.declared.words.TheConstants.{TICKS_LIMIT}
 use Rattle.claim_rule.proofs.Lists.{rises_append}
 use Rattle.claim_word.specs.Starts.{IsBase}

@@ -1,14 +1,14 @@
 -- What a worker's pass keeps as it draws and reads.
-use Rattle.std.proofs.Common.{◌≡◌, ◌≢◌, ℕ, suc, ◌+◌, ◌-◌, ◌*◌, ◌/◌, ◌%◌, ◌^◌, ◌<◌, ◌≤◌, ◌==◌, nat_le, cond, Bool, true, false, List, [], ◌∷◌, ◌++◌, map, length, get_or, set, refl, sym, ap, ◌∙◌, subst, arith, length-append, eq-eqb, get_or-set_same}
-use Rattle.std.specs.Prelude.{Option, Some, None, IsSomeAnd, MatchBool, nat_lt, filter, slice_get, vec_capacity}
-use Rattle.std.specs.List.{All, AllZip, sum_by}
-use Rattle.std.proofs.lemmas.Bool.{lt-ltb, ltb-false}
+use Rattle.std.proofs.Common.{◌≡◌, ℕ, ◌+◌, ◌-◌, ◌/◌, ◌<◌, ◌≤◌, cond, Bool, true, false, List, [], ◌∷◌, ◌++◌, map, length, get_or, set, refl, sym, ap, ◌∙◌, subst, arith, eq-eqb, get_or-set_same}
+use Rattle.std.specs.Prelude.{Option, Some, None, IsSomeAnd, MatchBool, filter, slice_get, vec_capacity}
+use Rattle.std.specs.List.{AllZip, sum_by}
+use Rattle.std.proofs.lemmas.Bool.{lt-ltb}
 use Rattle.std.proofs.lemmas.Bool.Decides.{nat_tests}
 use Rattle.std.proofs.lemmas.List.{append-nil, get_or_at, length-map, length_push, map-append}
 use Rattle.std.proofs.lemmas.List.Elements.{filter-append}
 use Rattle.std.proofs.lemmas.List.Sums.{sum_by_push}
 use Rattle.std.proofs.lemmas.Nat.{div-add-mod', le-div, mod_below}
-use Rattle.std.proofs.lemmas.Option.{slice_get-get_or, slice_get_within, get_or_from_slice_get}
+use Rattle.std.proofs.lemmas.Option.{slice_get-get_or, get_or_from_slice_get}
 use Rattle.map_entry.specs.declared.cell.Cell.{Cell}
 use Rattle.map_entry.specs.declared.entry.Entry.{Entry}
 use Rattle.map_entry.specs.Entry.{selected, HasRowsFrom}
@@ -17,8 +17,8 @@ use Rattle.map_entry.specs.Setup.{HasCells}
 use Rattle.claim_rule.specs.declared.plan.Plan.{Plan}
 use Rattle.claim_rule.specs.declared.view.View.{View}
 use Rattle.claim_rule.specs.declared.view.Draw.{Draw}
-use Rattle.claim_rule.specs.Claims.{outputs_of, output_of, tick_of, IsSound, IsFit}
-use Rattle.claim_rule.specs.Words.{places, head_words}
+use Rattle.claim_rule.specs.Claims.{outputs_of, output_of, tick_of, IsSound}
+use Rattle.claim_rule.specs.Words.{places}
 use Rattle.claim_rule.specs.Plays.{IsFound}
 use Rattle.claim_rule.specs.Views.{Begins, draw, drew, late, overs, is_at, times}
 use Rattle.claim_rule.proofs.Lists.{begins_more, begins_same}
@@ -26,8 +26,7 @@ use Rattle.claim_word.specs.declared.memory.Head.{Head}
 use Rattle.claim_word.specs.declared.memory.Memory.{Memory}
 use Rattle.claim_word.specs.declared.span.Span.{Span}
 use Rattle.claim_word.specs.declared.worker.Claim.{Claim}
-use Rattle.claim_word.specs.Faces.{PassFace, IsSpan}
-use Rattle.claim_word.specs.Claims.{claims_of, is_packet, number_of, row_words, head_of, HasOver, HasRow, IsClaim, IsFrugal, IsLast, IsLastDraw, IsMemory, IsWorker, read_on}
+use Rattle.claim_word.specs.Claims.{claims_of, is_packet, number_of, row_words, head_of, HasRow, IsClaim, IsFrugal, IsLast, IsLastDraw, IsMemory, IsWorker, read_on}
 use Rattle.claim_word.proofs.Remembering.{heads_few, rows_set, rows_there}
 
 -- ---- the last draw

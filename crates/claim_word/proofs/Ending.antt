@@ -1,16 +1,16 @@
 -- How the passes come back.
-use Rattle.std.proofs.Common.{◌≡◌, ℕ, suc, ◌+◌, ◌-◌, ◌<◌, ◌≤◌, ◌==◌, nat_le, cond, Bool, true, false, List, [], ◌∷◌, ◌++◌, map, length, get_or, min, refl, sym, ap, ◌∙◌, subst, arith, append_assoc, length-append, zero-add}
+use Rattle.std.proofs.Common.{◌≡◌, ℕ, ◌+◌, ◌-◌, ◌<◌, ◌≤◌, ◌==◌, nat_le, cond, Bool, true, false, List, [], ◌∷◌, ◌++◌, map, length, get_or, min, refl, sym, ap, ◌∙◌, subst, arith, append_assoc, length-append, zero-add}
 use Rattle.std.specs.Prelude.{◌||◌, ◌&&◌, eqb, nat_lt, filter, count_by}
-use Rattle.std.specs.List.{All, list_any, sum_by}
+use Rattle.std.specs.List.{All, list_any}
 use Rattle.std.proofs.lemmas.Bool.Decides.{nat_tests}
-use Rattle.std.proofs.lemmas.List.{append-nil, get_or_at, map-append}
+use Rattle.std.proofs.lemmas.List.{append-nil, get_or_at}
 use Rattle.std.proofs.lemmas.List.Folds.{list_any-append}
 use Rattle.std.proofs.lemmas.List.Sums.{sum_by-append, sum_by-cons}
 use Rattle.claim_rule.specs.declared.plan.Plan.{Plan}
 use Rattle.claim_rule.specs.declared.view.View.{View}
 use Rattle.claim_rule.specs.declared.view.Draw.{Draw}
 use Rattle.claim_rule.specs.declared.view.Sight.{Sight}
-use Rattle.claim_rule.specs.Views.{draw, is_at, times, once_below, noted, taken_in}
+use Rattle.claim_rule.specs.Views.{is_at, times, once_below, noted, taken_in}
 use Rattle.claim_word.specs.Claims.{claims_of, is_packet, HasOver}
 use Rattle.claim_word.specs.Endings.{claims_by, draws_in, once_claimed, seen_in, times_claimed, with_clients, with_workers}
 use Rattle.claim_word.specs.Faces.{PassFace, ClientFace}

@@ -1,5 +1,5 @@
 -- What a publisher keeps as it publishes.
-use Rattle.std.proofs.Common.{◌≡◌, ◌≢◌, ℕ, ◌+◌, ◌-◌, ◌*◌, ◌/◌, ◌%◌, ◌^◌, ◌<◌, ◌≤◌, ◌==◌, Bool, true, false, List, [], ◌∷◌, ◌++◌, length, get_or, min, refl, sym, ap, ◌∙◌, subst, arith, length-append, eq-eqb, ne_eqb}
+use Rattle.std.proofs.Common.{◌≡◌, ◌≢◌, ℕ, ◌+◌, ◌*◌, ◌^◌, ◌<◌, ◌≤◌, ◌==◌, Bool, true, List, ◌++◌, length, sym, ap, ◌∙◌, subst, arith, length-append, eq-eqb, ne_eqb}
 use Rattle.std.proofs.lemmas.List.{get_or_append_left}
 use Rattle.std.proofs.lemmas.List.Elements.{All-append, All-contains, All-weaker, Contains-push}
 use Rattle.std.specs.List.{All}
@@ -8,12 +8,11 @@ use Rattle.io_caps.specs.declared.limits.TheConstants.{MOST_CHANNELS}
 use Rattle.map_entry.specs.declared.cell.Cell.{Cell}
 use Rattle.map_entry.specs.declared.claims.TheConstants.{CLAIMS_LIMIT}
 use Rattle.map_entry.specs.declared.entry.Entry.{Entry}
-use Rattle.map_entry.specs.Entry.{due, IsEntryOk}
 use Rattle.claim_rule.specs.declared.plan.Plan.{Plan}
 use Rattle.claim_rule.specs.declared.view.View.{View}
-use Rattle.claim_rule.specs.Claims.{claims_at, IsSound, IsFit, IsTimely}
+use Rattle.claim_rule.specs.Claims.{claims_at, IsSound, IsFit}
 use Rattle.claim_rule.specs.Views.{IsSight, added, saw, sight}
-use Rattle.claim_rule.specs.Words.{places, stride, state_word, IsSpeltAt, Spells}
+use Rattle.claim_rule.specs.Words.{places, state_word, IsSpeltAt, Spells}
 use Rattle.claim_rule.specs.Plays.{raw_of, count_of, IsLater, MayPublish}
 use Rattle.claim_word.specs.declared.span.Span.{Span}
 use Rattle.claim_word.specs.declared.state.State.{State}

@@ -1,6 +1,6 @@
 -- What a pass remembers of entries: their heads, and the row that rules.
-use Rattle.std.proofs.Common.{◌≡◌, ◌≢◌, ℕ, zero, suc, ◌+◌, ◌-◌, ◌*◌, ◌^◌, ◌<◌, ◌≤◌, Bool, true, false, List, [], ◌∷◌, ◌++◌, map, length, get_or, take, drop, set, refl, sym, ap, ◌∙◌, subst, arith, append_assoc, length-append}
-use Rattle.std.specs.Prelude.{Option, Some, None, slice_get, eqb, nat_lt, not, ◌&&◌}
+use Rattle.std.proofs.Common.{◌≡◌, ℕ, zero, suc, ◌+◌, ◌<◌, ◌≤◌, true, false, List, [], ◌∷◌, ◌++◌, map, length, get_or, take, drop, set, refl, sym, ap, ◌∙◌, subst, arith, append_assoc, length-append}
+use Rattle.std.specs.Prelude.{Some, None}
 use Rattle.std.specs.List.{All, AllZip}
 use Rattle.std.proofs.lemmas.Bool.Decides.{nat_tests}
 use Rattle.std.proofs.lemmas.List.{append-nil, drop_more, drop-map, get_or-map, get_or_at, length-map, nil_from_length, take-append-drop}
@@ -15,8 +15,6 @@ use Rattle.map_entry.specs.Row.{channels_of_output}
 use Rattle.map_entry.specs.Setup.{HasCells}
 use Rattle.map_entry.proofs.Rows.{base_long}
 use Rattle.map_entry.proofs.Selection.{selected-hit, selected-miss}
-use Rattle.claim_rule.specs.declared.plan.Plan.{Plan}
-use Rattle.claim_rule.specs.Claims.{IsFit}
 use Rattle.claim_rule.specs.Views.{Begins}
 use Rattle.claim_word.specs.declared.memory.Head.{Head}
 use Rattle.claim_word.specs.Claims.{head_of, head_rules}

@@ -1,6 +1,6 @@
 -- What words can spell of entries that fit a plan.
-use Rattle.std.proofs.Common.{◌≡◌, ℕ, suc, ◌+◌, ◌*◌, ◌^◌, ◌<◌, ◌≤◌, Bool, true, false, List, [], ◌∷◌, map, length, get_or, refl, sym, ap, ◌∙◌, subst, ⊎_elim, arith}
-use Rattle.std.specs.Prelude.{Option, Some, None, option_map, slice_get}
+use Rattle.std.proofs.Common.{◌≡◌, ℕ, suc, ◌+◌, ◌<◌, ◌≤◌, true, List, length, get_or, refl, sym, ap, ◌∙◌, subst, ⊎_elim, arith}
+use Rattle.std.specs.Prelude.{Option, Some, None, option_map}
 use Rattle.std.specs.Option.{option_or, option_map_or}
 use Rattle.std.specs.List.{All}
 use Rattle.std.proofs.lemmas.Bool.{ltb-true}
@@ -8,18 +8,17 @@ use Rattle.std.proofs.lemmas.List.{get_or-map, get_or_default, length-map}
 use Rattle.std.proofs.lemmas.Option.{slice_get_cases}
 use Rattle.io_caps.specs.declared.device.DeviceParts.{DeviceParts}
 use Rattle.io_caps.specs.declared.port.Input.{Input}
-use Rattle.io_caps.specs.declared.limits.TheConstants.{MOST_CHANNELS, MOST_INPUTS, MOST_OUTPUTS}
+use Rattle.io_caps.specs.declared.limits.TheConstants.{MOST_CHANNELS}
 use Rattle.io_caps.specs.Device.{IsDevice}
 use Rattle.io_caps.specs.Port.{AreChannels}
 use Rattle.map_entry.specs.declared.cell.Cell.{Cell}
 use Rattle.map_entry.specs.declared.cell.Cell.TheVariants.{Unrouted, From}
 use Rattle.map_entry.specs.declared.entry.Entry.{Entry}
-use Rattle.map_entry.specs.declared.fault.RowFault.{RowFault}
 use Rattle.map_entry.specs.declared.fault.RowFault.TheVariants.{Input as NoInput, Channel as NoChannel}
 use Rattle.map_entry.specs.Row.{channels_of, is_input_there, is_channel_there, lowest_out, row_fault, IsRowOk}
 use Rattle.map_entry.proofs.Lowest.{lowest_none}
 use Rattle.claim_rule.specs.declared.plan.Plan.{Plan}
-use Rattle.claim_rule.specs.Claims.{outputs_of, IsSound, IsFit}
+use Rattle.claim_rule.specs.Claims.{IsSound, IsFit}
 use Rattle.claim_rule.specs.Words.{cell_word, entry_words}
 use Rattle.claim_rule.proofs.Fitting.{channels_few, few_outputs}
 use Rattle.claim_word.specs.Words.{IsByteCell}

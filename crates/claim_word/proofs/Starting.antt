@@ -1,10 +1,10 @@
 -- How a table starts.
-use Rattle.std.proofs.Common.{ℕ, ◌≡◌, ◌+◌, ◌-◌, ◌*◌, ◌^◌, ◌<◌, ◌≤◌, List, [], ◌∷◌, length, drop, min, refl, sym, ap, ◌∙◌, subst, arith, length-drop}
+use Rattle.std.proofs.Common.{ℕ, ◌≡◌, ◌+◌, ◌*◌, ◌<◌, ◌≤◌, List, [], ◌∷◌, length, drop, refl, sym, ap, ◌∙◌, subst, arith, length-drop}
 use Rattle.std.specs.List.{All, AllZip}
 use Rattle.std.proofs.Math.Nat.{mul-le-mul_right}
 use Rattle.std.proofs.lemmas.List.{drop_all}
 use Rattle.std.proofs.lemmas.List.Elements.{All-cons, All-nil}
-use Rattle.io_caps.specs.declared.limits.TheConstants.{CLIENTS, LAP_TICKS, MOST_BASE_ENTRIES, MOST_OUTPUTS, MOST_WORKERS}
+use Rattle.io_caps.specs.declared.limits.TheConstants.{LAP_TICKS, MOST_OUTPUTS, MOST_WORKERS}
 use Rattle.map_entry.specs.declared.cell.Cell.{Cell}
 use Rattle.map_entry.specs.declared.claims.TheConstants.{CLAIMS_LIMIT}
 use Rattle.map_entry.specs.declared.entry.Entry.{Entry}
@@ -13,8 +13,7 @@ use Rattle.map_entry.specs.Setup.{SetupParts, IsSetup, HasCells}
 use Rattle.map_entry.specs.Tick.{claim_tick}
 use Rattle.claim_rule.specs.declared.plan.Plan.{Plan}
 use Rattle.claim_rule.specs.declared.plan.Start.{Start}
-use Rattle.claim_rule.specs.declared.view.View.{View}
-use Rattle.claim_rule.specs.Claims.{plan_of, claims_at, tick_of, IsSound, IsFit, IsTimely}
+use Rattle.claim_rule.specs.Claims.{plan_of, claims_at, IsSound, IsFit, IsTimely}
 use Rattle.claim_rule.specs.Rule.{IsListed, Opens, Rises}
 use Rattle.claim_rule.specs.Views.{opener}
 use Rattle.claim_rule.specs.Words.{places, state_word, stride, Spells}
@@ -24,7 +23,6 @@ use Rattle.claim_word.specs.Faces.{IsSpan}
 use Rattle.claim_word.specs.Passes.{IsPublisher}
 use Rattle.claim_word.specs.Starts.{IsBase, planned}
 use Rattle.claim_word.specs.Writings.{IsLaid, IsWide}
-use Rattle.claim_word.proofs.Spelling.{wide_of}
 use Rattle.claim_word.proofs.Publishing.{all_wide}
 
 -- ---- base entries

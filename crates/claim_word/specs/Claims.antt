@@ -1,5 +1,5 @@
 -- What a claim says, and what a worker's pass keeps. (This project's own.)
-use Rattle.std.specs.Prelude.{◌≡◌, ℕ, ◌+◌, ◌-◌, ◌*◌, ◌<◌, ◌≤◌, Bool, true, false, nat_lt, cond, not, ◌&&◌, eqb, List, [], ◌∷◌, ◌++◌, map, filter, length, Some, slice_get, slice_index_or, MatchBool, vec_capacity}
+use Rattle.std.specs.Prelude.{◌≡◌, ℕ, ◌+◌, ◌-◌, ◌*◌, ◌<◌, ◌≤◌, Bool, true, false, nat_lt, cond, not, ◌&&◌, eqb, List, [], map, filter, length, Some, slice_get, slice_index_or, MatchBool, vec_capacity}
 use Rattle.std.specs.List.{All, AllZip, sum_by}
 use Rattle.map_entry.specs.declared.cell.Cell.{Cell}
 use Rattle.map_entry.specs.declared.entry.Entry.{Entry}

@@ -1,5 +1,5 @@
 -- What is known of a table in the end, with all its passes. (This project's own.)
-use Rattle.std.specs.Prelude.{◌≡◌, ℕ, ◌+◌, ◌&&◌, nat_le, nat_lt, eqb, cond, min, List, [], ◌∷◌, ◌++◌, map, length, count_by}
+use Rattle.std.specs.Prelude.{ℕ, ◌+◌, ◌&&◌, nat_le, nat_lt, eqb, cond, min, List, [], ◌∷◌, ◌++◌, length, count_by}
 use Rattle.std.specs.List.{sum_by}
 use Rattle.claim_rule.specs.declared.plan.Plan.{Plan}
 use Rattle.claim_rule.specs.declared.view.View.{View}

@@ -1,5 +1,5 @@
 -- What is written of entries, word by word. (This project's own.)
-use Rattle.std.specs.Prelude.{◌≡◌, ℕ, ◌+◌, ◌*◌, ◌^◌, ◌<◌, ◌≤◌, List, [], ◌∷◌, ◌++◌, length, drop, slice_index}
+use Rattle.std.specs.Prelude.{◌≡◌, ℕ, ◌*◌, ◌^◌, ◌<◌, ◌≤◌, List, [], ◌∷◌, ◌++◌, length, drop, slice_index}
 use Rattle.io_caps.specs.declared.limits.TheConstants.{MOST_CHANNELS}
 use Rattle.map_entry.specs.declared.claims.TheConstants.{CLAIMS_LIMIT}
 use Rattle.map_entry.specs.declared.entry.Entry.{Entry}

@@ -33,3 +33,6 @@ pub type ClientPasses = ListOf<ClientPass>;
 
 /// For each worker's pass the numbers of its claims, in the order of its draws.
 pub type ClaimLists = ListOf<Numbers>;
+
+#[cfg(test)]
+mod tests;

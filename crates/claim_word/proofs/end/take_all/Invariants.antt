@@ -1,4 +1,4 @@
-use Rattle.std.proofs.Common.{ℕ, ◌≡◌, ◌+◌, ◌≤◌, ◌++◌, true, map, length}
+use Rattle.std.proofs.Common.{◌≡◌, ◌+◌, ◌++◌, true, map, length}
 use Rattle.std.specs.Prelude.{vec_len, vec_capacity}
 use Rattle.std.specs.List.{list_any}
 use Rattle.claim_word.specs.Claims.{HasOver}

@@ -1,4 +1,4 @@
-use Rattle.std.proofs.Common.{◌≡◌, ◌+◌, length, drop}
+use Rattle.std.proofs.Common.{◌≡◌, length, drop}
 use Rattle.claim_word.specs.Writings.{holding}
 use Rattle.claim_word.proofs.Writing.{WroteFirst}
 use Rattle.claim_word.proofs.lay.lay_entries.Given as goal

@@ -1,4 +1,4 @@
-use Rattle.std.proofs.Common.{ℕ, ◌≡◌, ◌≤◌, false, length, drop}
+use Rattle.std.proofs.Common.{◌≡◌, ◌≤◌, false, length, drop}
 use Rattle.std.specs.List.{All}
 use Rattle.claim_word.specs.Claims.{head_rules}
 use Rattle.claim_word.proofs.memory.last_ruling.Given as goal

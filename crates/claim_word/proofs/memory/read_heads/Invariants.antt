@@ -1,4 +1,4 @@
-use Rattle.std.proofs.Common.{ℕ, ◌≡◌, ◌+◌, ◌-◌, ◌<◌, ◌≤◌, map, length}
+use Rattle.std.proofs.Common.{◌≡◌, ◌-◌, ◌≤◌, map}
 use Rattle.std.specs.Prelude.{vec_len, vec_capacity}
 use Rattle.claim_rule.specs.Views.{Begins}
 use Rattle.claim_word.specs.Claims.{head_of, read_on}

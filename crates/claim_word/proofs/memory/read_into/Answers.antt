@@ -1,6 +1,5 @@
-use Rattle.std.proofs.Common.{ℕ, ◌≡◌, ◌+◌, ◌<◌, ◌≤◌, List, [], length, get_or, set, refl, sym, ap, ◌∙◌, subst, arith}
+use Rattle.std.proofs.Common.{◌≡◌, [], length, get_or, ap, ◌∙◌}
 use Rattle.std.proofs.lemmas.List.{get_or_default}
-use Rattle.map_entry.specs.declared.cell.Cell.{Cell}
 use Rattle.claim_word.proofs.memory.read_into.Goals as goal
 use Rattle.claim_word.proofs.memory.read_into.Goals.{After-index_mut}
 

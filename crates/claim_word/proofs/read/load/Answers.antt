@@ -1,4 +1,4 @@
-use Rattle.std.proofs.Common.{◌≡◌, ◌+◌, ◌*◌, ◌<◌, ◌∙◌, sym, ap, arith}
+use Rattle.std.proofs.Common.{◌∙◌, sym, ap, arith}
 use Rattle.claim_rule.proofs.Steps.{reads_keeps}
 use Rattle.claim_word.proofs.read.load.Goals as goal
 

@@ -1,4 +1,4 @@
-use Rattle.std.proofs.Common.{ℕ, ◌≡◌, ◌+◌, ◌<◌, ◌≤◌, length, slice_index_or}
+use Rattle.std.proofs.Common.{◌≡◌, length, slice_index_or}
 use Rattle.map_entry.specs.declared.entry.Entry.{Entry}
 use Rattle.claim_word.specs.Claims.{read_on}
 use Rattle.claim_word.proofs.Reading.{AreSame}

@@ -1,4 +1,4 @@
-use Rattle.std.proofs.Common.{ℕ, ◌≡◌, length, sym, ap, subst, arith}
+use Rattle.std.proofs.Common.{◌≡◌, length, ap, subst, arith}
 use Rattle.claim_word.proofs.Reading.{AreSame, same_whole}
 use Rattle.claim_word.proofs.shelf.fill.Goals as goal
 

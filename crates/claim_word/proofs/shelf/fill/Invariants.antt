@@ -1,4 +1,4 @@
-use Rattle.std.proofs.Common.{ℕ, ◌≡◌, ◌<◌, length}
+use Rattle.std.proofs.Common.{◌≡◌, length}
 use Rattle.claim_word.proofs.Reading.{AreSame}
 use Rattle.claim_word.proofs.shelf.fill.Given as goal
 

@@ -1,4 +1,4 @@
-use Rattle.std.proofs.Common.{ℕ, ◌≡◌, ◌≤◌, length}
+use Rattle.std.proofs.Common.{◌≡◌, length}
 use Rattle.std.specs.List.{All}
 use Rattle.io_caps.specs.declared.limits.TheConstants.{MOST_CHANNELS}
 use Rattle.claim_word.proofs.shelf.spare_rows.Given as goal

@@ -1,4 +1,4 @@
-use Rattle.std.proofs.Common.{ℕ, ◌≡◌, ◌+◌, ◌-◌, ◌<◌, ◌≤◌, List, [], true, false, map, length, get_or, set, refl, sym, ap, ◌∙◌, subst, arith, get_or-set_same}
+use Rattle.std.proofs.Common.{ℕ, ◌≡◌, ◌+◌, ◌-◌, ◌<◌, List, [], true, map, length, get_or, set, refl, sym, ap, ◌∙◌, subst, arith, get_or-set_same}
 use Rattle.std.specs.Prelude.{Some, None, vec_len}
 use Rattle.std.proofs.lemmas.List.{length-map}
 use Rattle.map_entry.specs.declared.cell.Cell.{Cell}
@@ -8,7 +8,6 @@ use Rattle.map_entry.specs.Row.{channels_of_output}
 use Rattle.claim_rule.specs.declared.view.View.{View}
 use Rattle.claim_rule.specs.Claims.{outputs_of, output_of, tick_of}
 use Rattle.claim_rule.proofs.Fitting.{channels_few}
-use Rattle.claim_word.specs.declared.memory.Head.{Head}
 use Rattle.claim_word.specs.Claims.{head_of, number_of, read_on, IsMemory}
 use Rattle.claim_word.proofs.Claiming.{covered, memory_found, output_there}
 use Rattle.claim_word.proofs.Reading.{nobody, read_further}

@@ -1,4 +1,4 @@
-use Rattle.std.proofs.Common.{◌≡◌, ◌<◌, ◌∙◌, sym, ap, arith}
+use Rattle.std.proofs.Common.{◌∙◌, sym, ap, arith}
 use Rattle.claim_rule.proofs.Seats.{notes_keeps}
 use Rattle.claim_word.proofs.publisher.Publisher.client.Goals as goal
 

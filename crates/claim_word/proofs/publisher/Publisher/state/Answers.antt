@@ -1,4 +1,4 @@
-use Rattle.std.proofs.Common.{ℕ, ◌≡◌, ◌+◌, ◌/◌, ◌%◌, ◌^◌, ◌<◌, min, ◌∙◌, sym, ap, subst, arith}
+use Rattle.std.proofs.Common.{ℕ, ◌+◌, ◌/◌, ◌%◌, ◌^◌, min, ◌∙◌, sym, ap, subst, arith}
 use Rattle.claim_rule.specs.declared.view.View.{View}
 use Rattle.claim_rule.proofs.Steps.{sees_keeps}
 use Rattle.claim_word.specs.declared.state.State.{State}

@@ -1,17 +1,16 @@
-use Rattle.std.proofs.Common.{ℕ, ◌≡◌, ◌≢◌, ◌+◌, ◌*◌, ◌^◌, ◌<◌, ◌≤◌, List, [], ◌++◌, length, ◌∙◌, sym, ap, subst, arith}
+use Rattle.std.proofs.Common.{ℕ, ◌≡◌, List, length, ◌∙◌, sym, ap, subst, arith}
 use Rattle.std.specs.List.{All}
 use Rattle.map_entry.specs.declared.entry.Entry.{Entry}
 use Rattle.claim_rule.specs.declared.view.View.{View}
 use Rattle.claim_rule.specs.Claims.{IsFit}
 use Rattle.claim_rule.specs.Views.{added}
-use Rattle.claim_rule.specs.Words.{state_word}
-use Rattle.claim_rule.specs.Plays.{MayPublish, raw_of}
+use Rattle.claim_rule.specs.Plays.{MayPublish}
 use Rattle.claim_rule.proofs.Publishing.{publishes_keeps}
 use Rattle.claim_word.specs.Faces.{PublisherFace}
 use Rattle.claim_word.specs.Passes.{IsPublisher}
-use Rattle.claim_word.specs.States.{ArePublishable, HasSeen, IsMissed, IsPublished}
-use Rattle.claim_word.specs.Writings.{IsWide, WroteAll}
-use Rattle.claim_word.proofs.Publishing.{all_short, all_wide, claims_few, hit_case, may_publish, miss_case, missed_is, missed_keeps, new_fit, published_is, published_keeps}
+use Rattle.claim_word.specs.States.{ArePublishable, HasSeen}
+use Rattle.claim_word.specs.Writings.{IsWide}
+use Rattle.claim_word.proofs.Publishing.{all_short, all_wide, claims_few, hit_case, may_publish, miss_case, missed_keeps, new_fit, published_keeps}
 use Rattle.claim_word.proofs.publisher.Publisher.try_publish.Goals as goal
 use Rattle.claim_word.proofs.publisher.Publisher.try_publish.Goals.{After-len-count}
 

@@ -1,4 +1,4 @@
-use Rattle.std.proofs.Common.{ℕ, ◌≡◌, ◌≤◌, length, take}
+use Rattle.std.proofs.Common.{◌≡◌, ◌≤◌, take}
 use Rattle.std.specs.Prelude.{count_by, nat_lt, max}
 use Rattle.map_entry.specs.Entry.{due}
 use Rattle.map_entry.specs.Tick.{first_tick}

@@ -1,9 +1,8 @@
-use Rattle.std.proofs.Common.{ℕ, ◌≡◌, ◌+◌, ◌<◌, ◌≤◌, List, [], length, get_or, refl, sym, ap, ◌∙◌, subst, arith}
+use Rattle.std.proofs.Common.{ℕ, ◌≡◌, ◌<◌, [], length, get_or, refl, sym, ap, ◌∙◌, subst, arith}
 use Rattle.std.specs.Prelude.{Some}
 use Rattle.std.specs.List.{All, AllZip}
 use Rattle.std.proofs.lemmas.List.{get_or_default}
 use Rattle.std.proofs.lemmas.List.Elements.{All-weaker}
-use Rattle.map_entry.specs.declared.cell.Cell.{Cell}
 use Rattle.map_entry.specs.declared.entry.Entry.{Entry}
 use Rattle.map_entry.specs.Entry.{selected, IsEntryOk}
 use Rattle.map_entry.specs.Row.{channels_of_output, IsRowOf}
@@ -11,7 +10,7 @@ use Rattle.map_entry.proofs.Entries.{selected_row}
 use Rattle.map_entry.specs.Setup.{HasCells}
 use Rattle.claim_rule.specs.declared.view.View.{View}
 use Rattle.claim_rule.specs.Claims.{outputs_of, IsFit}
-use Rattle.claim_word.specs.Claims.{number_of, IsFrugal, IsLast, read_on}
+use Rattle.claim_word.specs.Claims.{number_of, IsLast, read_on}
 use Rattle.claim_word.specs.Faces.{PassFace}
 use Rattle.claim_word.proofs.Claiming.{frugal_of, output_there}
 use Rattle.claim_word.proofs.Remembering.{rows_there}
