@@ -3,4 +3,5 @@ pub mod Growth
 pub mod Exact
 pub mod FieldLaws
 pub mod WholeLaws
-pub mod ReaderLaws
+pub mod FormLaws
+pub mod FormLengths

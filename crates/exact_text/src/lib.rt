@@ -2,10 +2,10 @@
 //! that what is read is spelled so and that what is spelled so is read again, whatever follows.
 //!
 //! A reading is a function from bytes to a value and the bytes after it. Each reader here returns
-//! just what its reading gives (`Gives`), so a crate above proves its own readers by unfolding one
-//! `do` expression. A spelling is a function from a value to bytes. That both fit each other
-//! (`Exact`, in the proofs of this crate) takes one line a field: `field_then`, `byte_then`,
-//! `number_then`, `text_then`, `many_then`, and `record_then` for tagged bodies.
+//! just what its reading gives (`Gives`). A form is a spelling, a reading and the values that fit;
+//! a crate above puts forms together, proves its own readers by unfolding one of them, and has the
+//! law that spelling and reading fit each other in one line a combinator (`Lawful`, in the proofs
+//! of this crate).
 #![tactic(auto)]
 
 mod fields;
