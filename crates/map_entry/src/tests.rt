@@ -102,15 +102,6 @@ fn device(alloc: Global, channels: usize, listed: Listed) -> Result<Device, Fail
     }
 }
 
-/// The fault of a row of the last output, where it has a cell for each channel.
-fn row_fault(device: &Device, row: &Row) -> Result<Option<RowFault>, Fail> {
-    let output = device.outputs() - 1;
-    if row.len() != device.output(output).channels() {
-        return Err("a cell for each channel".into());
-    }
-    Ok(check_row(device, output, row).err())
-}
-
 /// Builds a setup with these base rows, and copies it: the fault, where there is one.
 fn setup_fault(alloc: Global, device: Device, x: Row, y: Row) -> Result<Option<SetupFault>, Fail> {
     let mut rows = Rows::new(alloc);
@@ -126,16 +117,13 @@ fn setup_fault(alloc: Global, device: Device, x: Row, y: Row) -> Result<Option<S
     }
 }
 
-/// The fault of a row, which a setup with this base row has too.
+/// The fault of a base row of the last output.
 fn fault(alloc: Global, listed: Listed, places: &[Place]) -> Result<Option<RowFault>, Fail> {
     let device = device(alloc, places.len(), listed)?;
-    let row = cells(alloc, places)?;
-    let fault = row_fault(&device, &row)?;
-    let base = fault.map(|fault| SetupFault::BaseRow { output: 1, fault });
-    if setup_fault(alloc, device, cells(alloc, &[N])?, row)? == base {
-        Ok(fault)
-    } else {
-        Err("the same fault of a base row".into())
+    match setup_fault(alloc, device, cells(alloc, &[N])?, cells(alloc, places)?)? {
+        None => Ok(None),
+        Some(SetupFault::BaseRow { output: 1, fault }) => Ok(Some(fault)),
+        Some(_) => Err("a fault of the last output".into()),
     }
 }
 
@@ -257,24 +245,27 @@ fn blocks_and_order(rt: HostRuntime) -> Result<(), Fail> {
     Ok(())
 }
 
-#[test]
-fn rows_of_64_channels(rt: HostRuntime) -> Result<(), Fail> {
+/// The fault of a row of 64 channels, all from the last input in their order but for the last two.
+fn wide_fault(alloc: Global, low: Place, high: Place) -> Result<Option<RowFault>, Fail> {
     let mut places = [N; 64];
-    assert_eq!(rt; fault(rt.alloc(), None, &places)?, None);
     for (at, place) in places.iter_mut().enumerate() {
         *place = (4, at as u8);
     }
-    assert_eq!(rt; fault(rt.alloc(), None, &places)?, None);
-    // The last two the other way round, the last twice, and without the last.
+    places[62] = low;
+    places[63] = high;
+    fault(alloc, None, &places)
+}
+
+#[test]
+fn rows_of_64_channels(rt: HostRuntime) -> Result<(), Fail> {
     for (low, high, found) in [
-        ((4, 63), (4, 62), RowFault::Order(0)),
-        ((4, 63), (4, 63), RowFault::Block(0)),
-        ((4, 62), N, RowFault::Block(0)),
-        (N, (4, 64), RowFault::Channel(63)),
+        ((4, 62), (4, 63), None),
+        ((4, 63), (4, 62), Some(RowFault::Order(0))),
+        ((4, 63), (4, 63), Some(RowFault::Block(0))),
+        ((4, 62), N, Some(RowFault::Block(0))),
+        (N, (4, 64), Some(RowFault::Channel(63))),
     ] {
-        places[62] = low;
-        places[63] = high;
-        assert_eq!(rt; fault(rt.alloc(), None, &places)?, Some(found));
+        assert_eq!(rt; wide_fault(rt.alloc(), low, high)?, found);
     }
     Ok(())
 }
@@ -321,103 +312,85 @@ fn fault_texts(rt: HostRuntime) -> Result<(), Fail> {
     Ok(())
 }
 
-const NONE: Cell = Cell::Unrouted;
+const LEFT: Place = (0, 0);
 
-const LEFT: Cell = Cell::From {
-    input: 0,
-    channel: 0,
-};
+const RIGHT: Place = (0, 1);
 
-const RIGHT: Cell = Cell::From {
-    input: 0,
-    channel: 1,
-};
-
-fn row(alloc: Global, cells: &[Cell]) -> Result<Row, NoMemory> {
-    let mut made = Row::new(alloc);
-    for cell in cells {
-        made.push(*cell)?;
+/// The cell of an output that has these entries, each from its tick on.
+fn selected(alloc: Global, output: u8, tick: u64) -> Result<Option<Cell>, NoMemory> {
+    let mut entries = Entries::new(alloc);
+    for (from, place) in [(0, N), (1000, LEFT), (1000, N), (500, RIGHT)] {
+        entries.push(Entry::new(3, from, cells(alloc, &[place])?, 0))?;
     }
-    Ok(made)
-}
-
-fn entries(alloc: Global, list: &[(u64, Cell)]) -> Result<Entries, NoMemory> {
-    let mut made = Entries::new(alloc);
-    for (tick, cell) in list {
-        made.push(Entry::new(3, *tick, row(alloc, &[*cell])?, 0))?;
-    }
-    made.copy()
+    Ok(select(&entries.copy()?, output, tick).and_then(|row| row.get(0).copied()))
 }
 
 #[test]
 fn schedule_delete_schedule(rt: HostRuntime) -> Result<(), Fail> {
-    let list = entries(
-        rt.alloc(),
-        &[(0, NONE), (1000, LEFT), (1000, NONE), (500, RIGHT)],
-    )?;
-    for (tick, cell) in [(0, NONE), (499, NONE), (500, RIGHT), (1000, RIGHT)] {
-        let row = select(&list, 3, tick).ok_or("a row")?;
-        assert_eq!(rt; row.get(0).copied(), Some(cell), "at {tick}");
+    let right = Cell::From {
+        input: 0,
+        channel: 1,
+    };
+    for (output, tick, found) in [
+        (3, 0, Some(Cell::Unrouted)),
+        (3, 499, Some(Cell::Unrouted)),
+        (3, 500, Some(right)),
+        (3, 1000, Some(right)),
+        (2, 1000, None),
+    ] {
+        assert_eq!(rt; selected(rt.alloc(), output, tick)?, found, "at {tick}");
     }
-    assert!(rt; select(&list, 2, 1000).is_none());
     Ok(())
 }
 
-fn change(
-    alloc: Global,
-    output: u8,
-    list: &[(u8, Cell)],
-) -> Result<Option<OutputChange>, NoMemory> {
+/// The change of an output that routes channels of input 0 to these of its channels, where they
+/// ascend.
+fn change(alloc: Global, output: u8, list: &[(u8, u8)]) -> Result<Option<OutputChange>, NoMemory> {
     let mut changes = Changes::new(alloc);
-    for (channel, cell) in list {
+    for (channel, from) in list {
         changes.push(Change {
             channel: *channel,
-            cell: *cell,
+            cell: Cell::From {
+                input: 0,
+                channel: *from,
+            },
         })?;
     }
     Ok(OutputChange::build(output, changes))
 }
 
-/// Whether these outputs can be changed in one action, in this order.
-fn adds(alloc: Global, outputs: &[u8]) -> Result<bool, NoMemory> {
-    let mut action = Action::new(alloc);
-    for output in outputs {
-        match change(alloc, *output, &[])? {
-            Some(change) => {
-                if !action.try_push(change)? {
-                    return Ok(false);
-                }
-            }
-            None => return Ok(false),
-        }
-    }
-    Ok(true)
-}
-
+/// A copy of the action that changes two outputs, each once.
 fn action(alloc: Global) -> Result<Action, Fail> {
     let mut action = Action::new(alloc);
-    action.push(change(alloc, 3, &[(0, RIGHT), (1, LEFT)])?.ok_or("in order")?)?;
+    action.push(change(alloc, 3, &[(0, 1), (1, 0)])?.ok_or("channels in order")?)?;
+    let again = action.try_push(change(alloc, 3, &[])?.ok_or("no channel")?)?;
+    let next = action.try_push(change(alloc, 4, &[])?.ok_or("no channel")?)?;
+    if again || !next {
+        return Err("outputs that ascend".into());
+    }
     Ok(action.copy()?)
 }
 
-fn applied(alloc: Global, output: u8) -> Result<Row, Fail> {
-    let old = row(alloc, &[NONE, NONE])?;
+/// The last of two unrouted channels of an output, after the action.
+fn applied(alloc: Global, output: u8) -> Result<Option<Cell>, Fail> {
+    let row = cells(alloc, &[N, N])?;
     let action = action(alloc)?;
-    if !action.fits(output, old.len()) {
+    if !action.fits(output, row.len()) {
         return Err("channels of the row".into());
     }
-    Ok(apply(alloc, &old, &action, output)?)
+    let made = apply(alloc, &row, &action, output)?;
+    Ok(made.get(1).copied())
 }
 
 #[test]
 fn actions(rt: HostRuntime) -> Result<(), Fail> {
-    let alloc = rt.alloc();
-    assert!(rt; change(alloc, 3, &[(0, LEFT), (1, LEFT)])?.is_some());
-    assert!(rt; change(alloc, 3, &[(1, LEFT), (1, LEFT)])?.is_none());
-    assert!(rt; adds(alloc, &[0, 2, 3])?);
-    assert!(rt; !adds(alloc, &[0, 2, 2])?);
-    assert_eq!(rt; applied(alloc, 3)?.get(1).copied(), Some(LEFT));
-    assert_eq!(rt; applied(alloc, 5)?.get(1).copied(), Some(NONE));
+    let left = Cell::From {
+        input: 0,
+        channel: 0,
+    };
+    assert_eq!(rt; applied(rt.alloc(), 3)?, Some(left));
+    assert_eq!(rt; applied(rt.alloc(), 4)?, Some(Cell::Unrouted));
+    assert!(rt; change(rt.alloc(), 3, &[(1, 0), (1, 0)])?.is_none());
     Ok(())
 }
 
@@ -428,24 +401,4 @@ fn claims(rt: HostRuntime) {
     }
     assert_eq!(rt; claim_tick(7, 3, 5), 8);
     assert_eq!(rt; claim_output(3, 5), 2);
-}
-
-/// Whether a value has a copy, and it is equal.
-fn is_copied<T: TryCopy + PartialEq>(value: T) -> Result<bool, NoMemory> {
-    Ok(value.copy()? == value)
-}
-
-#[test]
-fn parts_copied(rt: HostRuntime) -> Result<(), Fail> {
-    assert!(rt; is_copied(RIGHT)?);
-    assert!(rt;
-        is_copied(Change {
-            channel: 1,
-            cell: LEFT,
-        })?
-    );
-    let fault = RowFault::NotRoutable(2);
-    assert!(rt; is_copied(fault)?);
-    assert!(rt; is_copied(SetupFault::BaseRow { output: 1, fault })?);
-    Ok(())
 }
