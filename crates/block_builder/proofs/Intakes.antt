@@ -13,7 +13,8 @@ use Rattle.block_builder.specs.Blocks.{intake_for}
 use Rattle.block_builder.specs.Window.{IsIntake}
 
 -- a device's last tick is far below the end of the machine's numbers
-base_small : (last frames hz seconds : ℕ) → last * frames < hz * seconds → 1 ≤ frames → hz < 2 ^ 24 → seconds ≤ 2 ^ 40 → last < 2 ^ 64
+base_small : (last frames hz seconds : ℕ) → last * frames < hz * seconds → 1 ≤ frames → hz < 2 ^ 24
+    → seconds ≤ 2 ^ 40 → last < 2 ^ 64
 base_small last frames hz seconds lt some few end =
     let a : last * 1 ≤ last * frames = mul-le-mul (omega arith) some in
     let h : hz ≤ 2 ^ 24 = omega (arith, few) in
@@ -23,7 +24,8 @@ base_small last frames hz seconds lt some few end =
 some_same : {X : Type 0} (x y : X) → Some x ≡ Some y → x ≡ y
 some_same x y e = cc
 
-all_at : {X : Type 0} (P : X → Type 0) (xs : List X) (k : ℕ) (x : X) → All P xs → slice_get xs k ≡ Some x → P x
+all_at : {X : Type 0} (P : X → Type 0) (xs : List X) (k : ℕ) (x : X) → All P xs
+    → slice_get xs k ≡ Some x → P x
 all_at P [] k x h e = absurd cc
 all_at P (y ∷ ys) zero x h e = subst P (some_same y x e) (h 0 y (omega arith))
 all_at P (y ∷ ys) (suc k) x h e = all_at P ys k x (λ j d lt. h (suc j) d (omega (arith, lt))) e
@@ -31,10 +33,13 @@ all_at P (y ∷ ys) (suc k) x h e = all_at P ys k x (λ j d lt. h (suc j) d (ome
 rate_few : (r : Rate) → IsRate r → r.hz < 2 ^ 24
 rate_few r h = let hz = h.0 in grind (arith, hz)
 
-pub intake_fits : (d : DeviceParts) (i : Input) (input ticks : ℕ) → IsDevice d → slice_get d.inputs input ≡ Some i → ticks ≤ SESSION_TICKS → IsIntake (intake_for d i ticks)
+pub intake_fits : (d : DeviceParts) (i : Input) (input ticks : ℕ) → IsDevice d
+    → slice_get d.inputs input ≡ Some i → ticks ≤ SESSION_TICKS → IsIntake (intake_for d i ticks)
 intake_fits d i input ticks valid there few =
-    let labels = all_at (λ (j : Input). AreChannels j.labels) d.inputs input i valid.streams.inputs there in
-    let small = base_small _ d.rate.frames d.rate.hz _ valid.bounds.base valid.bounds.rate.1 (rate_few d.rate valid.bounds.rate) (omega arith) in
+    let labels = all_at (λ (j : Input). AreChannels j.labels) d.inputs input i valid.streams.inputs
+    there in
+    let small = base_small _ d.rate.frames d.rate.hz _ valid.bounds.base valid.bounds.rate.1
+    (rate_few d.rate valid.bounds.rate) (omega arith) in
     record {
       channels = labels;
       frames = (valid.bounds.rate.1, valid.bounds.rate.2);

@@ -12,7 +12,8 @@ pub use contract.Running.{tables}
 unfoldable pub use contract.Running.{tables_of}
 pub use sound.WpLaws.{WpFn-mono}
 pub use types.Logic.{Logic}
-pub use types.Kit.{‵, raw, prop, ◌⊛◌, ◌$◌, ◌∵◌, !, qed, move, keep, drop, split, fsplit, fjoin, fpack, feq_i, feq_l, regoal, suffices, done, Goal, Item, Step, step}
+pub use types.Kit.{‵, raw, prop, ◌⊛◌, ◌$◌, ◌∵◌, !, qed, move, keep, drop, split, fsplit, fjoin}
+pub use types.Kit.{fpack, feq_i, feq_l, regoal, suffices, done, Goal, Item, Step, step}
 pub use types.Part.{agg}
 pub use types.Run.{enter, no_more, returns}
 pub use types.ByLocal.{alloc_all, free_all, look_at, pass_all, sets}
@@ -36,7 +37,9 @@ abbrev pub bodiless : RattleType
 bodiless = Struct (record { name = []; args = []; types = []; fields = [] })
 
 -- it is made of nothing
-pub from_nothing : {M : Type 1} {𝓤 : Ura M} {𝓛 : Logic 𝓤} {K : Type 0} {Γ : List (Item 𝓤)} {G : Goal 𝓤 𝓛.H} → K → Step K 𝓛 (‵ (bodiless.own_val tt (nobody ∷ [])) ∷ Γ) G Γ G
+pub from_nothing : {M : Type 1} {𝓤 : Ura M} {𝓛 : Logic 𝓤} {K : Type 0} {Γ : List (Item 𝓤)}
+    {G : Goal 𝓤 𝓛.H} → K → Step K 𝓛 (‵ (bodiless.own_val tt (nobody ∷ [])) ∷ Γ) G Γ G
 from_nothing k = step (λ rest.
     nothing k $ feq_i k (List Val) (nobody ∷ []) (nobody ∷ []) refl $ fjoin k $
-    fpack k (Valss []) (within (record { name = []; args = []; types = []; fields = [] }) tt (nobody ∷ [])) tt $ rest)
+    fpack k (Valss []) (within (record { name = []; args = []; types = []; fields = [] }) tt
+    (nobody ∷ [])) tt $ rest)

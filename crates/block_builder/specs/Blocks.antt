@@ -155,7 +155,8 @@ holder n pieces tick place =
     option_and_then (λ p. (if covers place p then Some p else None))
     (find (decides n tick place) pieces)
 
--- so many samples of a payload in order (RFC 3551, sections 4.3 and 4.5.11, and RFC 3190, section 4)
+-- so many samples of a payload in order (RFC 3551, sections 4.3 and 4.5.11, and RFC 3190, section
+-- 4)
 abbrev pub samples_in : Width → ℕ → List ℕ → List ℤ
 samples_in width count payload =
     let size = bytes_per_sample width in

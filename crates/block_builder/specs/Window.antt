@@ -1,7 +1,8 @@
 -- The builder's window: slots of ticks, rising, each with what its tick holds so far. (This
 -- project's own.)
 use Rattle.std.specs.Prelude.{◌≡◌, ◌≢◌, ℕ, ◌+◌, ◌-◌, ◌*◌, ◌^◌, ◌<◌, ◌≤◌, Bool, false, if◌then◌else◌}
-use Rattle.std.specs.Prelude.{◌&&◌, true, drop, not, nat_lt, List, [], ◌∷◌, length, map, Some, None, is_some}
+use Rattle.std.specs.Prelude.{◌&&◌, true, drop, not, nat_lt, List, [], ◌∷◌, length, map, Some, None}
+use Rattle.std.specs.Prelude.{is_some}
 use Rattle.std.specs.Prelude.{IfSome, ℤ, ◌⊎◌, slice_index_or}
 use Rattle.std.specs.List.{count_by, range_with_len, sum_by}
 use Rattle.std.specs.Option.{option_or}

@@ -13,13 +13,16 @@ loop-place-preserved c =
     let size = bytes_per_sample width in
     let f = λ (k : ℕ). sample_of width (take size (drop (k * size) c.args.payload.now)) in
     let same = stays c.get_sample.result c.get_sample.ensures.range in
-    let part = ap (sample_of width) (part_is c.args.payload.now c.loop-place.place _ _ c.bytes-bytes.ensures) in
+    let part = ap (sample_of width)
+    (part_is c.args.payload.now c.loop-place.place _ _ c.bytes-bytes.ensures) in
     record {
       long = length-set c.loop-place.out c.loop-place.place _ ∙ c.loop-place.invariant.long;
       read =
-          one_more f c.loop-place.out c.loop-place.place _ (pos 0) (omega (arith, c.loop-place-test.true, c.loop-place.auto.out))
+          one_more f c.loop-place.out c.loop-place.place _ (pos 0)
+          (omega (arith, c.loop-place-test.true, c.loop-place.auto.out))
           (same ∙ c.get_sample.ensures.value ∙ part) c.loop-place.invariant.read;
-      range = All-set IsSample c.loop-place.out c.loop-place.place _ (subst IsSample (sym same) c.get_sample.ensures.range) c.loop-place.invariant.range;
+      range = All-set IsSample c.loop-place.out c.loop-place.place _
+          (subst IsSample (sym same) c.get_sample.ensures.range) c.loop-place.invariant.range;
     }
 
 pub returns-clause-value : goal.returns-clause-value

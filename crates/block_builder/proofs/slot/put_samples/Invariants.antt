@@ -9,6 +9,7 @@ invariant-loop-place l =
     let size = bytes_per_sample l.width in
     record {
       long : length l.out ≡ length l.fn.out;
-      read : (k : ℕ) → k < l.place → get_or l.out k (pos 0) ≡ sample_of l.width (take size (drop (k * size) l.payload));
+      read : (k : ℕ) → k < l.place → get_or l.out k (pos 0)
+          ≡ sample_of l.width (take size (drop (k * size) l.payload));
       range : All IsSample l.out;
     }

@@ -7,5 +7,7 @@ use Rattle.block_builder.proofs.builder.Builder.new.Goals as goal
 
 pub invariant_of-result : goal.invariant_of-result
 invariant_of-result c =
-    subst (λ (all : List Arrival). IsBuilder c.of.result all c.new.result.items 0 0) (sym c.new-2.ensures)
-    (subst (λ (ss : List Slot). IsBuilder c.of.result [] ss 0 0) (sym c.new.ensures.items) (builder_begins c.of.result c.of.ensures.numbers))
+    subst (λ (all : List Arrival). IsBuilder c.of.result all c.new.result.items 0 0)
+    (sym c.new-2.ensures)
+    (subst (λ (ss : List Slot). IsBuilder c.of.result [] ss 0 0) (sym c.new.ensures.items)
+    (builder_begins c.of.result c.of.ensures.numbers))
