@@ -13,6 +13,8 @@ loop-frame-preserved g c =
       len = c.mark_row.ensures.len ∙ c.loop-frame.invariant.len;
       each = λ input there.
           c.mark_row.ensures.each input (omega (arith, there, c.loop-frame.invariant.len))
-          ∙ ap (λ (so_far : Bool). so_far || row_names input piece.row.now) (c.loop-frame.invariant.each input there)
-          ∙ piece_named rows piece.row.now c.loop-frame.frame piece.upto input c.piece-piece.ensures.goes_on c.piece-piece.ensures.row;
+          ∙ ap (λ (so_far : Bool). so_far || row_names input piece.row.now)
+          (c.loop-frame.invariant.each input there)
+          ∙ piece_named rows piece.row.now c.loop-frame.frame piece.upto input
+          c.piece-piece.ensures.goes_on c.piece-piece.ensures.row;
     }

@@ -10,5 +10,6 @@ abbrev pub invariant-loop-frame : goal.invariant-loop-frame
 invariant-loop-frame g l = record {
   within : l.frame ≤ l.frames;
   len : length l.flags ≡ length l.fn.flags;
-  each : (input : ℕ) → input < length l.fn.flags → slice_index_or l.flags input false ≡ is_named l.frame (g.R.FrameRows.row_of l.rows) input;
+  each : (input : ℕ) → input < length l.fn.flags
+      → slice_index_or l.flags input false ≡ is_named l.frame (g.R.FrameRows.row_of l.rows) input;
 }

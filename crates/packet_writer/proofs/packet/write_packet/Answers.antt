@@ -10,7 +10,8 @@ returns-clause-text g c = λ b agrees.
     let d = c.args.device.now in
     let of = c.output-of.result.now in
     let rows = g.R.FrameRows.row_of c.args.rows.now in
-    let packet = λ (rate : Rate) (inputs : List Input). output_packet rate inputs of rows b c.args.tick in
+    let packet = λ (rate : Rate) (inputs : List Input).
+    output_packet rate inputs of rows b c.args.tick in
     c.write_output.ensures.text b agrees
     ∙ ap (λ (rate : Rate). packet rate c.input_slice-inputs.result.now) c.rate.ensures.value
     ∙ ap (packet d.rate) c.input_slice-inputs.ensures.value

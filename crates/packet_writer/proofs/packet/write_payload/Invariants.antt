@@ -13,7 +13,9 @@ invariant-loop-frame g l =
     record {
       within : l.frame ≤ l.rate.frames;
       len : length l.out ≡ length l.fn.out;
-      text : (b : TickBlocks) → agrees l.source b → take (l.frame * l.frame_len) l.out ≡ payload_of l.output.width (samples_from l.inputs b rows 0 l.frame);
+      text : (b : TickBlocks) → agrees l.source b
+          → take (l.frame * l.frame_len) l.out
+          ≡ payload_of l.output.width (samples_from l.inputs b rows 0 l.frame);
       kept : (b : TickBlocks) → agrees l.source b → agrees l.fn.source b;
       stays : g.S.Samples.stays l.fn.source l.source;
     }

@@ -13,8 +13,10 @@ invariant-loop-cell g l =
     record {
       len : length l.out ≡ length l.fn.out;
       long : length l.samples ≡ l.piece.upto - l.piece.frame;
-      put : (b : TickBlocks) → agrees l.source b → (f c : ℕ) (d : Cell) → f < l.piece.upto - l.piece.frame → c < l.cell
-          → slot (bytes_per_sample l.width) (f * length row + c) l.out ≡ bytes_of_sample l.width (heard l.inputs b (l.piece.frame + f) (get_or row c d));
+      put : (b : TickBlocks) → agrees l.source b → (f c : ℕ) (d : Cell)
+          → f < l.piece.upto - l.piece.frame → c < l.cell
+          → slot (bytes_per_sample l.width) (f * length row + c) l.out
+          ≡ bytes_of_sample l.width (heard l.inputs b (l.piece.frame + f) (get_or row c d));
       kept : (b : TickBlocks) → agrees l.source b → agrees l.fn.source b;
       stays : g.S.Samples.stays l.fn.source l.source;
     }

@@ -10,4 +10,6 @@ pub loop-n-preserved : goal.loop-n-preserved
 loop-n-preserved c =
     let place = (c.args.frame + c.loop-n.n) * c.args.channels + c.args.channel in
     let fits : SFits w32 (get_or c.args.samples.now place (pos 0)) = search rules in
-    copied_more (λ f. sample_in (Some c.args.samples.now) (f * c.args.channels + c.args.channel)) c.args.frame c.loop-n.n c.args.out.now c.loop-n.out _ c.loop-n-test.true (to_z-of_z w32 (get_or c.args.samples.now place (pos 0)) fits) c.loop-n.invariant
+    copied_more (λ f. sample_in (Some c.args.samples.now) (f * c.args.channels + c.args.channel))
+    c.args.frame c.loop-n.n c.args.out.now c.loop-n.out _ c.loop-n-test.true
+    (to_z-of_z w32 (get_or c.args.samples.now place (pos 0)) fits) c.loop-n.invariant

@@ -10,7 +10,10 @@ write_claim-requires-clause-rows c =
     let d = c.args.setup.now.device in
     let row = c.args.row.now in
     let inputs : c.input_slice.result.now ≡ d.inputs = search rules in
-    let channels : c.channels-channels.result ≡ channels_of_output d (output_of_claim c.args.setup.now 0) = search rules in
+    let channels : c.channels-channels.result
+    ≡ channels_of_output d (output_of_claim c.args.setup.now 0) = search rules in
     let fits : RowFits c.input_slice.result.now c.channels-channels.result row = search rules in
-    c.new.ensures.fits d.inputs (channels_of_output d (output_of_claim c.args.setup.now 0)) d.rate.frames
-    (subst (λ (n : ℕ). RowFits d.inputs n row) channels (subst (λ (i : List Input). RowFits i c.channels-channels.result row) inputs fits))
+    c.new.ensures.fits d.inputs (channels_of_output d (output_of_claim c.args.setup.now 0))
+    d.rate.frames
+    (subst (λ (n : ℕ). RowFits d.inputs n row) channels
+    (subst (λ (i : List Input). RowFits i c.channels-channels.result row) inputs fits))

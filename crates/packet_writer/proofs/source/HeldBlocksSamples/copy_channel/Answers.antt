@@ -4,9 +4,13 @@ use Rattle.packet_writer.proofs.Copies.{silent}
 use Rattle.packet_writer.proofs.source.HeldBlocksSamples.copy_channel.Goals as goal
 
 pub copy_from_block-requires-clause-room : goal.copy_from_block-requires-clause-room
-copy_from_block-requires-clause-room c = rw c.in-Some.ensures.some at (c.requires.room (listed c.args.self.now.blocks.now) (λ i. refl))
+copy_from_block-requires-clause-room c =
+    rw c.in-Some.ensures.some at (c.requires.room (listed c.args.self.now.blocks.now) (λ i. refl))
 
 pub returns-in-None-clause-value : goal.returns-in-None-clause-value
 returns-in-None-clause-value c = λ b agrees.
-    c.fill.ensures.after (λ y e. e) ∙ silent c.args.channels c.args.channel c.args.frame (length c.args.out.now)
-    ∙ ap (λ (o : Option (List ℤ)). channel_samples o c.args.channels c.args.channel c.args.frame (length c.args.out.now)) (sym (agrees c.args.input ∙ c.in-None.ensures.none))
+    c.fill.ensures.after (λ y e. e)
+    ∙ silent c.args.channels c.args.channel c.args.frame (length c.args.out.now)
+    ∙ ap (λ (o : Option (List ℤ)).
+    channel_samples o c.args.channels c.args.channel c.args.frame (length c.args.out.now))
+    (sym (agrees c.args.input ∙ c.in-None.ensures.none))
