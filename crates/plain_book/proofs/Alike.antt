@@ -1,10 +1,10 @@
 -- Over a list that selects alike the book decides the same and makes the same entries.
-use Rattle.std.proofs.Common.{◌≡◌, ℕ, zero, suc, ◌+◌, ◌<◌, ◌≤◌, Bool, true, false, List, [], ◌∷◌, ◌++◌, length, map, Option, Some, None, refl, sym, ap, ◌∙◌, subst, arith}
+use Rattle.std.proofs.Common.{◌≡◌, ℕ, ◌+◌, ◌<◌, ◌≤◌, Bool, true, false, List, [], ◌∷◌, ◌++◌, length, map, Option, Some, None, refl, sym, ap, ◌∙◌, subst}
 use Rattle.std.specs.Prelude.{All, if◌then◌else◌, nat_lt, option_map}
 use Rattle.std.specs.Option.{option_or, unwrap_or}
-use Rattle.std.specs.List.{range_with_len}
-use Rattle.std.proofs.lemmas.List.Elements.{All-append, All-tail}
+use Rattle.std.proofs.lemmas.List.Elements.{All-append}
 use Rattle.std.proofs.lemmas.Bool.{ltb-true}
+use Rattle.list_laws.proofs.Items.{All-right}
 use Rattle.io_caps.specs.declared.device.DeviceParts.{DeviceParts}
 use Rattle.map_entry.specs.Action.{OutputChangeParts, applied}
 use Rattle.map_entry.specs.Entry.{due, entry_of, selected}
@@ -25,7 +25,6 @@ use Rattle.plain_book.specs.declared.replies.Refusal.TheVariants.{Unknown, Row}
 use Rattle.plain_book.specs.declared.replies.Refusal.{Refusal}
 use Rattle.plain_book.specs.declared.requests.When.{When}
 use Rattle.plain_book.proofs.Entries.{entries_more}
-use Rattle.plain_book.proofs.Ranges.{map_range_more}
 use Rattle.plain_book.proofs.Waiting.{HasOutputs, begin_rises}
 
 pub row_alike : (s : SetupParts) (from claims : ℕ) (list : List Entry) (journal : List JournalCall) (output : ℕ) → HasOutputs s → SelectsAlike s from list journal → from ≤ claims → output < length s.device.outputs
@@ -99,19 +98,7 @@ pub moved : (s : SetupParts) (a b : ℕ) (list after : List Entry) (journal call
 moved s a b list after journal calls is from same more =
     subst (λ (k : ℕ). SelectsAlike s k after calls) (sym from) (subst (λ (es : List Entry). SelectsAlike s a es calls) (sym same) (subst (λ (j : List JournalCall). SelectsAlike s a list j) (sym more) is))
 
-pub all_right : {X : Type 0} (P : X → Type 0) (xs ys : List X) → All P (xs ++ ys) → All P ys
-all_right P [] ys h = h
-all_right P (x ∷ xs) ys h = all_right P xs ys (All-tail P x (xs ++ ys) h)
-
 -- what holds of the entries of a journal holds of those that a call makes of a list that selects alike
 pub all_more : (P : Entry → Type 0) (s : SetupParts) (list new : List Entry) (journal : List JournalCall) (call : JournalCall) → All P list → All P (entries_of s (journal ++ call ∷ [])) → new ≡ call_entries s journal (entries_of s journal) call → All P (list ++ new)
 all_more P s list new journal call old all is =
-    All-append P list new old (subst (All P) (sym is) (all_right P (entries_of s journal) (call_entries s journal (entries_of s journal) call) (subst (All P) (entries_more s journal call) all)))
-
-pub range_same : {X : Type 0} (f g : ℕ → X) (n : ℕ) → ((k : ℕ) → k < n → f k ≡ g k) → map f (range_with_len 0 n) ≡ map g (range_with_len 0 n)
-range_same f g zero same = refl
-range_same {X} f g (suc n) same =
-    let e : n + 1 ≡ suc n = omega arith in
-    let step : map f (range_with_len 0 (n + 1)) ≡ map g (range_with_len 0 (n + 1)) =
-    map_range_more f n ∙ ap (λ (xs : List X). xs ++ f n ∷ []) (range_same f g n (λ k lt. same k (omega (arith, lt)))) ∙ ap (λ (x : X). map g (range_with_len 0 n) ++ x ∷ []) (same n (omega arith)) ∙ sym (map_range_more g n) in
-    subst (λ (m : ℕ). map f (range_with_len 0 m) ≡ map g (range_with_len 0 m)) e step
+    All-append P list new old (subst (All P) (sym is) (All-right P (entries_of s journal) (call_entries s journal (entries_of s journal) call) (subst (All P) (entries_more s journal call) all)))

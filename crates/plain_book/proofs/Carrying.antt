@@ -6,6 +6,7 @@ use Rattle.std.specs.Option.{option_or}
 use Rattle.std.proofs.lemmas.Bool.{cases_Bool, cases_lt, le-ltb, eq-eqb, ne_eqb, false≢true, or_parts}
 use Rattle.std.proofs.lemmas.List.{append-nil}
 use Rattle.std.proofs.lemmas.List.Folds.{list_any-append}
+use Rattle.list_laws.proofs.Options.{option_or-Some}
 use Rattle.map_entry.specs.Action.{OutputChangeParts}
 use Rattle.map_entry.specs.Entry.{due, row_where, rules, selected}
 use Rattle.map_entry.specs.Setup.{IsSetup, SetupParts}
@@ -43,10 +44,6 @@ or_last (Some y) x = refl
 some_first : {X : Type 0} (a b c : Option X) → IsSome a → option_or a b ≡ option_or a c
 some_first None b c is = absurd (false≢true is)
 some_first (Some x) b c is = refl
-
-some_only : {X : Type 0} (a b : Option X) → IsSome a → option_or a b ≡ a
-some_only None b is = absurd (false≢true is)
-some_only (Some x) b is = refl
 
 -- ---- the entries of one call
 
@@ -215,6 +212,6 @@ carried_rules s c journal o t checked some legal lt since =
                 let part : List Entry = entries_where s keep [] journal in
                 let same : selected part o t ≡ selected (entries_of s journal) o t = pending_rules s c journal some legal keep c o t f.item (in_time s c journal legal) held g.1 at_last in
                 let some_part : IsSome (selected part o t) = subst (λ (r : Option (List Cell)). IsSome r) (sym same) (cover o t lt (omega (arith, since))) in
-                selected-append due rows part o t ∙ some_only (selected part o t) (selected rows o t) some_part ∙ same
+                selected-append due rows part o t ∙ option_or-Some (selected part o t) (selected rows o t) some_part ∙ same
           ]
     ]

@@ -1,11 +1,12 @@
 -- One more accepted call.
-use Rattle.std.proofs.Common.{◌≡◌, ℕ, zero, suc, ◌+◌, ◌<◌, ◌≤◌, ◌⊎◌, Bool, true, false, eqb, List, [], ◌∷◌, ◌++◌, length, get_or, take, Some, inl, inr, refl, ap, ◌∙◌, subst, arith, length-append, sym, map, Option, None}
-use Rattle.std.specs.Prelude.{slice_get, filter, not, ◌&&◌, ◌||◌, nat_lt, option_map, if◌then◌else◌}
+use Rattle.std.proofs.Common.{◌≡◌, ℕ, ◌+◌, ◌<◌, ◌≤◌, Bool, true, false, eqb, List, [], ◌∷◌, ◌++◌, length, get_or, take, Some, inl, inr, refl, ap, ◌∙◌, subst, arith, length-append, sym, map, Option, None}
+use Rattle.std.specs.Prelude.{filter, not, ◌&&◌, ◌||◌, nat_lt, option_map, if◌then◌else◌}
 use Rattle.std.proofs.Math.Seq.{take-append_seam, get_or-append_seam}
-use Rattle.std.proofs.lemmas.Bool.{cases_Bool, cases_lt, eqb-true, false≢true, le-ltb, lt-ltb}
+use Rattle.std.proofs.lemmas.Bool.{cases_Bool, cases_lt, eqb-true, false≢true, le-ltb, lt-ltb, and_right}
 use Rattle.std.proofs.lemmas.List.{append-nil, get_or_append_left, take-append-le, map-append}
 use Rattle.std.proofs.lemmas.List.Elements.{All-push, filter-append}
 use Rattle.std.specs.Option.{option_to_list}
+use Rattle.list_laws.proofs.Items.{slice_get-push}
 use Rattle.map_entry.specs.Action.{OutputChangeParts}
 use Rattle.map_entry.specs.Setup.{SetupParts}
 use Rattle.plain_book.specs.Book.{landing_tick}
@@ -25,24 +26,7 @@ use Rattle.plain_book.proofs.Lists.{IsIn, from_filter}
 use Rattle.plain_book.proofs.Looking.{active_low, filter_map_is, filter_twice}
 use Rattle.plain_book.proofs.Waiting.{HasOneOf, IsWaiting, deleted_more, is_scheduled_activation, lands_later}
 
-pub seam : {X : Type 0} (xs ys : List X) → take (length xs) (xs ++ ys) ≡ xs
-seam xs ys = take-append_seam xs ys
-
 -- ---- legal journals
-
-slice_get_more : {X : Type 0} (xs : List X) (y : X) (k : ℕ) (x : X) → slice_get (xs ++ y ∷ []) k ≡ Some x → (slice_get xs k ≡ Some x) ⊎ ((k ≡ length xs) × (y ≡ x))
-slice_get_more [] y zero x e = let same : y ≡ x = cc in inr (refl, same)
-slice_get_more [] y (suc k) x e = absurd cc
-slice_get_more (z ∷ xs) y zero x e = inl e
-slice_get_more (z ∷ xs) y (suc k) x e = elim (slice_get_more xs y k x e) [
-  | inl old ↦ inl old
-  | inr new ↦ inr (ap suc new.0, new.1)
-]
-
-within_of : {X : Type 0} (xs : List X) (k : ℕ) (x : X) → slice_get xs k ≡ Some x → k < length xs
-within_of [] k x e = absurd cc
-within_of (y ∷ ys) zero x e = omega arith
-within_of (y ∷ ys) (suc k) x e = let w = within_of ys k x e in omega (arith, w)
 
 pub legal_more : (s : SetupParts) (m : ℕ) (journal : List JournalCall) (call : JournalCall) → IsLegalJournal s m journal → IsAccepted s journal call → call.at ≡ m → IsLegalJournal s m (journal ++ call ∷ [])
 legal_more s m journal call legal is at =
@@ -56,8 +40,8 @@ legal_more s m journal call legal is at =
             rw (get_or_append_left journal (call ∷ []) d i (omega (arith, less, here)), here, get_or-append_seam journal call [] d) (omega (arith, early, at))
       ];
       within = All-push (λ (c : JournalCall). c.at ≤ m) journal call legal.within (omega (arith, at));
-      accepted = λ k c e. elim (slice_get_more journal call k c e) [
-        | inl old ↦ rw (take-append-le k journal (call ∷ []) (let w = within_of journal k c old in omega (arith, w))) (legal.accepted k c old)
+      accepted = λ k c e. elim (slice_get-push journal call k c e) [
+        | inl old ↦ rw (take-append-le k journal (call ∷ []) (let w = old.1 in omega (arith, w))) (legal.accepted k c old.0)
         | inr new ↦ let whole : take k (journal ++ call ∷ []) ≡ journal = ap (λ (i : ℕ). take i (journal ++ call ∷ [])) new.0 ∙ take-append_seam journal (call ∷ []) in
             rw whole (subst (IsAccepted s journal) new.1 is)
       ];
@@ -93,10 +77,6 @@ one_passes p x = elim (cases_Bool (p x)) [
 and_yes : (a : Bool) → (a && true) ≡ a
 and_yes true = refl
 and_yes false = refl
-
-and_no : (a : Bool) → (a && false) ≡ false
-and_no true = refl
-and_no false = refl
 
 filter_last : {X : Type 0} (p q : X → Bool) (xs : List X) (x : X) → ((y : X) → IsIn y xs → p y ≡ q y) → filter p (xs ++ x ∷ []) ≡ filter q xs ++ (if p x then x ∷ [] else [])
 filter_last {X} p q xs x same = filter-append p xs (x ∷ []) ∙ ap (λ (ys : List X). ys ++ filter p (x ∷ [])) (filter_same p q xs same) ∙ ap (λ (ys : List X). filter q xs ++ ys) (one_passes p x)
@@ -188,7 +168,7 @@ gone_pending s journal claims client id tick =
     ∙ sym (append-nil (filter after journal)) ∙ sym (filter_last after after journal call (λ c i. refl)))
 
 not_active : (s : SetupParts) (journal : List JournalCall) (claims : ℕ) (c : JournalCall) → begin s claims < call_due c → is_active s journal claims c ≡ false
-not_active s journal claims c late = rw (lt-ltb (begin s claims) (call_due c) late) (and_no (is_activation c.request))
+not_active s journal claims c late = rw (lt-ltb (begin s claims) (call_due c) late) (and_right (is_activation c.request) false refl)
 
 gone_active : (s : SetupParts) (journal : List JournalCall) (claims client id tick : ℕ) (found c : JournalCall) → HasOneOf journal → IsIn found journal → IsWaiting s journal claims found → found.id ≡ id → IsIn c journal
     → is_active s (journal ++ journal_call claims client 0 tick (Delete id) ∷ []) claims c ≡ is_active s journal claims c

@@ -1,8 +1,8 @@
 -- What an action names fits the rows of a device.
-use Rattle.std.proofs.Common.{◌≡◌, ℕ, zero, suc, ◌<◌, inl, inr, Bool, true, false, eqb, ltb, List, [], ◌∷◌, length, Option, Some, None, refl, sym, ap, ◌∙◌, subst, arith}
+use Rattle.std.proofs.Common.{◌≡◌, ℕ, zero, suc, ◌<◌, inl, inr, Bool, false, eqb, ltb, List, [], ◌∷◌, length, Option, Some, None, refl, sym, ap, ◌∙◌, subst, arith}
 use Rattle.std.specs.Prelude.{IfSome, not, find, option_map, slice_get}
 use Rattle.std.specs.List.{AllByRecursion}
-use Rattle.std.proofs.lemmas.Bool.{cases_Bool, ltb-true, false≢true, eqb-true}
+use Rattle.std.proofs.lemmas.Bool.{cases_Bool, ltb-true, false≢true, eqb-true, not-false}
 use Rattle.std.proofs.lemmas.List.Elements.{All-from_recursion}
 use Rattle.io_caps.specs.declared.device.DeviceParts.{DeviceParts}
 use Rattle.map_entry.specs.Action.{FitsRow, NamesChannels, OutputChangeParts, change_of}
@@ -15,10 +15,6 @@ use Rattle.plain_book.proofs.Locks.{first_none}
 
 some_none : {X : Type 0} (x : X) → Some x ≡ None → ⊥
 some_none x e = cc
-
-unflip : (b : Bool) → not b ≡ false → b ≡ true
-unflip true e = refl
-unflip false e = absurd (false≢true (sym e))
 
 no_output : {X : Type 0} (xs : List X) (k : ℕ) → k < length xs → slice_get xs k ≡ None → ⊥
 no_output [] k lt e = omega (arith, lt)
@@ -34,7 +30,7 @@ none_found {X} p (x ∷ xs) e = elim (cases_Bool (p x)) [
 
 below : (channels : ℕ) (changes : List Change) → AllByRecursion (λ c. not (ltb c.channel channels) ≡ false) changes → AllByRecursion (λ c. c.channel < channels) changes
 below channels [] all = tt
-below channels (c ∷ cs) all = (ltb-true c.channel channels (unflip (ltb c.channel channels) all.0), below channels cs all.1)
+below channels (c ∷ cs) all = (ltb-true c.channel channels (not-false (ltb c.channel channels) all.0), below channels cs all.1)
 
 no_bad : (o : ℕ) (found : Option Change) → option_map (λ change. BadChannel o change.channel) found ≡ None → found ≡ None
 no_bad o None e = refl

@@ -15,7 +15,6 @@ pub mod Ordering
 pub mod Prefixes
 pub mod Pruning
 pub mod Publishing
-pub mod Ranges
 pub mod Reading
 pub mod Refusing
 pub mod Sound

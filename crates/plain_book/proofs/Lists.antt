@@ -1,8 +1,7 @@
 -- Members of lists, and tests over them.
-use Rattle.std.proofs.Common.{◌≡◌, ℕ, zero, suc, ◌<◌, ◌⊎◌, Bool, true, List, [], ◌∷◌, ◌++◌, take, Option, Some, None, inl, inr, refl, sym, ap, ◌∙◌, subst, arith}
+use Rattle.std.proofs.Common.{◌≡◌, ℕ, zero, suc, ◌<◌, ◌⊎◌, Bool, true, List, [], ◌∷◌, ◌++◌, take, Some, inl, inr, refl, sym, ap, ◌∙◌, subst, arith}
 use Rattle.std.specs.Prelude.{filter, find, slice_get}
 use Rattle.std.specs.List.{list_any, AllByRecursion}
-use Rattle.std.specs.Option.{option_or}
 use Rattle.std.proofs.lemmas.Bool.{cases_Bool, or_left, or_right, or_cases, false≢true}
 
 abbrev pub IsIn : {X : Type 0} → X → List X → Type 0
@@ -89,14 +88,6 @@ all_append P [] ys a b = b
 all_append P (x ∷ xs) ys a b = (a.0, all_append P xs ys a.1 b)
 
 -- ---- the first that is there
-
-pub none_first : {X : Type 0} (a b : Option X) → option_or a b ≡ None → a ≡ None
-none_first None b e = refl
-none_first (Some x) b e = absurd cc
-
-pub none_rest : {X : Type 0} (a b : Option X) → option_or a b ≡ None → b ≡ None
-none_rest None b e = e
-none_rest (Some x) b e = absurd cc
 
 -- ---- places
 

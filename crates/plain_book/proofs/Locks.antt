@@ -2,6 +2,7 @@
 use Rattle.std.proofs.Common.{◌≡◌, ℕ, ◌≤◌, Bool, true, false, List, [], ◌∷◌, ◌++◌, None, inl, inr, refl, sym, ap, subst, ◌∙◌}
 use Rattle.std.specs.Prelude.{eqb, if◌then◌else◌, Option, Some}
 use Rattle.std.proofs.lemmas.Bool.{false≢true, eqb-true}
+use Rattle.list_laws.proofs.Options.{option_or-first, option_or-second}
 use Rattle.map_entry.specs.Action.{OutputChangeParts}
 use Rattle.map_entry.specs.Setup.{SetupParts}
 use Rattle.plain_book.specs.Book.{bad_channel_by, bad_row_by, empty_by, first_some, locked_at, locked_by, refusal_of, time_by, unknown_by}
@@ -14,7 +15,7 @@ use Rattle.plain_book.specs.declared.replies.Refusal.TheVariants.{Locked}
 use Rattle.plain_book.specs.declared.replies.Refusal.{Refusal}
 use Rattle.plain_book.specs.declared.requests.When.{When}
 use Rattle.plain_book.proofs.Accepted.{IsActivated, cases}
-use Rattle.plain_book.proofs.Lists.{IsIn, in_more, in_last, in_left, any_in, any_from, in_filter, none_first, none_rest}
+use Rattle.plain_book.proofs.Lists.{IsIn, in_more, in_last, in_left, any_in, any_from, in_filter}
 use Rattle.plain_book.proofs.Prefixes.{legal_by}
 use Rattle.plain_book.proofs.Waiting.{HasOutputs, IsWaiting, waiting, sooner, waits_before}
 
@@ -32,25 +33,25 @@ pub record IsFree (s : SetupParts) (before : List JournalCall) (claims : ℕ) (w
 pub is_free : (s : SetupParts) (before : List JournalCall) (claims : ℕ) (when : When) (action : List OutputChangeParts) → refusal_of s before claims when action ≡ None → IsFree s before claims when action
 unfolding refusal_of
 is_free s before claims when action e =
-    let e1 = none_rest _ _ e in
-    let e2 = none_rest _ _ e1 in
-    let e3 = none_rest _ _ e2 in
-    let e4 = none_rest _ _ e3 in
-    let e5 = none_rest _ _ e4 in
+    let e1 = option_or-second _ _ e in
+    let e2 = option_or-second _ _ e1 in
+    let e3 = option_or-second _ _ e2 in
+    let e4 = option_or-second _ _ e3 in
+    let e5 = option_or-second _ _ e4 in
     record {
-      some = none_first _ _ e;
-      known = none_first _ _ e1;
-      channels = none_first _ _ e2;
-      unlocked = none_first _ _ e3;
-      rows = none_first _ _ e4;
-      in_time = none_first _ _ e5;
-      room = none_rest _ _ e5;
+      some = option_or-first _ _ e;
+      known = option_or-first _ _ e1;
+      channels = option_or-first _ _ e2;
+      unlocked = option_or-first _ _ e3;
+      rows = option_or-first _ _ e4;
+      in_time = option_or-first _ _ e5;
+      room = option_or-second _ _ e5;
     }
 
 pub first_none : {X Y : Type 0} (f : X → Option Y) (xs : List X) (x : X) → first_some f xs ≡ None → IsIn x xs → f x ≡ None
 first_none f [] x e i = absurd i
-first_none f (y ∷ ys) x e (inl same) = sym (ap f same) ∙ none_first _ _ e
-first_none f (y ∷ ys) x e (inr i) = first_none f ys x (none_rest _ _ e) i
+first_none f (y ∷ ys) x e (inl same) = sym (ap f same) ∙ option_or-first _ _ e
+first_none f (y ∷ ys) x e (inr i) = first_none f ys x (option_or-second _ _ e) i
 
 unlocked_at : (b : Bool) (r : Refusal) → (if b then Some r else None) ≡ None → b ≡ false
 unlocked_at true r e = absurd cc

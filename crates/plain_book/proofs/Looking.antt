@@ -3,7 +3,7 @@ use Rattle.std.proofs.Common.{◌≡◌, ℕ, ◌<◌, ◌≤◌, Bool, true, fa
 use Rattle.std.specs.Prelude.{◌&&◌, ◌||◌, not, filter, find, option_map, if◌then◌else◌}
 use Rattle.std.specs.List.{list_any}
 use Rattle.std.specs.Option.{option_or}
-use Rattle.std.proofs.lemmas.Bool.{cases_Bool, cases_lt, and_parts, lt-ltb, le-ltb, ltb-false, false≢true}
+use Rattle.std.proofs.lemmas.Bool.{cases_Bool, cases_lt, and_parts, lt-ltb, le-ltb, ltb-false, false≢true, not-true}
 use Rattle.map_entry.specs.Action.{OutputChangeParts}
 use Rattle.map_entry.specs.Setup.{SetupParts}
 use Rattle.plain_book.specs.Book.{first_some, locked_at, refusal_of}
@@ -25,7 +25,7 @@ use Rattle.plain_book.proofs.Accepted.{IsActivated, cases}
 use Rattle.plain_book.proofs.Lists.{IsIn, in_more}
 use Rattle.plain_book.proofs.Prefixes.{legal_by}
 use Rattle.plain_book.proofs.Steady.{in_time}
-use Rattle.plain_book.proofs.Waiting.{HasOutputs, begin_rises, is_scheduled_activation, not_true, waits}
+use Rattle.plain_book.proofs.Waiting.{HasOutputs, begin_rises, is_scheduled_activation, waits}
 
 -- ---- filters
 
@@ -199,7 +199,7 @@ pub active_low : (s : SetupParts) (journal : List JournalCall) (seen : ℕ) (x :
 active_low s journal seen x is =
     let a = and_parts (is_activation x.request) (not (ltb (begin s seen) (call_due x)) && not (is_deleted journal x.id)) is in
     let b = and_parts (not (ltb (begin s seen) (call_due x))) (not (is_deleted journal x.id)) a.1 in
-    ltb-false (begin s seen) (call_due x) (not_true (ltb (begin s seen) (call_due x)) b.0)
+    ltb-false (begin s seen) (call_due x) (not-true (ltb (begin s seen) (call_due x)) b.0)
 
 passed_high : (s : SetupParts) (journal : List JournalCall) (seen claims : ℕ) (x : JournalCall) → passed s journal seen claims x ≡ true → begin s seen < call_due x
 passed_high s journal seen claims x is = (waits s journal seen x (and_parts (is_pending s journal seen x) (not (ltb (begin s claims) (call_due x))) is).0).later

@@ -281,7 +281,7 @@ own_rest x xs client up = elim (cases_Bool (eqb x.client client)) [
   | inr other ↦ rw other at up
 ]
 
-own_from : (xs : List ReplyItem) → ((client : ℕ) → StampsRise (replies_to client xs)) → StampsRise xs
+pub own_from : (xs : List ReplyItem) → ((client : ℕ) → StampsRise (replies_to client xs)) → StampsRise xs
 own_from [] each = tt
 own_from (x ∷ xs) each =
     let own : eqb x.client x.client ≡ true = eq-eqb x.client x.client refl in

@@ -2,18 +2,18 @@
 use Rattle.std.proofs.Common.{◌≡◌, ℕ, ◌+◌, ◌≤◌, true, List, [], ◌∷◌, ◌++◌, take, drop, Option, Some, None, inl, inr, refl, sym, ap, ◌∙◌, subst, arith, length-append}
 use Rattle.std.specs.Prelude.{All, IsSome, ◌&&◌, eqb, max, nat_lt, not}
 use Rattle.std.specs.Option.{option_or}
-use Rattle.std.proofs.lemmas.Bool.{and_parts, cases_Bool, eqb-true, eq-eqb, false≢true, le-ltb, ltb-false}
-use Rattle.std.proofs.lemmas.List.{drop-drop, get_or_append_left, take-append-drop}
+use Rattle.std.proofs.lemmas.Bool.{and_parts, cases_Bool, eqb-true, eq-eqb, false≢true, le-ltb, ltb-false, not-true}
+use Rattle.std.proofs.lemmas.List.{drop-drop, take-append-drop}
 use Rattle.std.proofs.lemmas.List.Elements.{All-append, All-tail}
+use Rattle.list_laws.proofs.Options.{option_or-Some}
+use Rattle.list_laws.proofs.Items.{All-right, All-left}
 use Rattle.map_entry.specs.Entry.{IsEntryOk, due, row_where, rules, selected}
 use Rattle.map_entry.specs.declared.cell.Cell.{Cell}
 use Rattle.map_entry.specs.declared.entry.Entry.{Entry}
 use Rattle.map_entry.proofs.Selection.{option_or-None, selected-append}
 use Rattle.plain_book.specs.Time.{begin}
 use Rattle.plain_book.specs.Ruling.{IsPruned, is_head_over, is_over}
-use Rattle.plain_book.proofs.Alike.{all_right}
 use Rattle.plain_book.proofs.Lists.{IsIn, any_from}
-use Rattle.plain_book.proofs.Waiting.{not_true}
 
 or_row : (above : Option (List Cell)) (e : Entry) → IsSome (option_or above (row_where true e))
 or_row None e = refl
@@ -29,16 +29,12 @@ selects [] n o t member hit = absurd member
 selects (e ∷ es) n o t (inl same) hit = rw (ap (rules due o t) same ∙ hit) (or_row (selected es o t) e)
 selects (e ∷ es) n o t (inr there) hit = or_there (selected es o t) (row_where (rules due o t e) e) (selects es n o t there hit)
 
-taken : (above b : Option (List Cell)) → IsSome above → option_or above b ≡ above
-taken None b is = absurd (false≢true is)
-taken (Some row) b is = refl
-
 rules_too : (e n : Entry) (o t key : ℕ) → (eqb n.output e.output && not (nat_lt (max (due e) key) (due n))) ≡ true → key ≤ t → rules due o t e ≡ true → rules due o t n ≡ true
 rules_too e n o t key over since hit =
     let a = and_parts (eqb n.output e.output) (not (nat_lt (max (due e) key) (due n))) over in
     let b = and_parts (eqb e.output o) (not (nat_lt t (due e))) hit in
-    let low : due n ≤ max (due e) key = ltb-false (max (due e) key) (due n) (not_true (nat_lt (max (due e) key) (due n)) a.1) in
-    let at : due e ≤ t = ltb-false t (due e) (not_true (nat_lt t (due e)) b.1) in
+    let low : due n ≤ max (due e) key = ltb-false (max (due e) key) (due n) (not-true (nat_lt (max (due e) key) (due n)) a.1) in
+    let at : due e ≤ t = ltb-false t (due e) (not-true (nat_lt t (due e)) b.1) in
     let own : n.output ≡ o = eqb-true n.output e.output a.0 ∙ eqb-true e.output o b.0 in
     rw (eq-eqb n.output o own, le-ltb t (due n) (omega (arith, low, at, since))) refl
 
@@ -48,15 +44,12 @@ over_one e later o t key over since = elim (cases_Bool (rules due o t e)) [
   | inr out ↦ rw out (option_or-None (selected later o t))
   | inl hit ↦
       let f = any_from (λ (n : Entry). eqb n.output e.output && not (nat_lt (max (due e) key) (due n))) later over in
-      taken (selected later o t) (row_where (rules due o t e) e) (selects later f.item o t f.member (rules_too e f.item o t key f.passes since hit))
+      option_or-Some (selected later o t) (row_where (rules due o t e) e) (selects later f.item o t f.member (rules_too e f.item o t key f.passes since hit))
 ]
-
-all_left : {X : Type 0} (P : X → Type 0) (xs ys : List X) → All P (xs ++ ys) → All P xs
-all_left P xs ys all i d lt = subst P (get_or_append_left xs ys d i lt) (all i d (omega (arith, lt, length-append xs ys)))
 
 all_less : (P : Entry → Type 0) (before later : List Entry) (e : Entry) → All P (before ++ e ∷ later) → All P (before ++ later)
 all_less P before later e all =
-    All-append P before later (all_left P before (e ∷ later) all) (All-tail P e later (all_right P before (e ∷ later) all))
+    All-append P before later (All-left P before (e ∷ later) all) (All-tail P e later (All-right P before (e ∷ later) all))
 
 -- without an entry that is over by those behind it
 pruned_one : (before later : List Entry) (e : Entry) (key : ℕ) → is_over key e later ≡ true → IsPruned key (before ++ e ∷ later) (before ++ later)

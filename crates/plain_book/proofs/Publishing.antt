@@ -2,6 +2,7 @@
 use Rattle.std.proofs.Common.{◌≡◌, ℕ, ◌+◌, ◌*◌, ◌<◌, ◌≤◌, List, [], ◌∷◌, ◌++◌, length, map, Option, Some, None, refl, sym, ap, ◌∙◌, subst, arith, length-append}
 use Rattle.std.specs.Prelude.{All}
 use Rattle.std.proofs.lemmas.List.Elements.{All-nil, All-cons}
+use Rattle.list_laws.proofs.Items.{All-right}
 use Rattle.io_caps.specs.declared.limits.TheConstants.{PLACES}
 use Rattle.map_entry.specs.Action.{OutputChangeParts}
 use Rattle.map_entry.specs.Entry.{IsEntryOk, due}
@@ -24,7 +25,7 @@ use Rattle.plain_book.specs.declared.requests.Request.TheVariants.{Activate, Del
 use Rattle.plain_book.specs.declared.requests.Request.{Request}
 use Rattle.plain_book.specs.declared.requests.When.{When}
 use Rattle.plain_book.proofs.Accepted.{called}
-use Rattle.plain_book.proofs.Alike.{all_right, changes_alike}
+use Rattle.plain_book.proofs.Alike.{changes_alike}
 use Rattle.plain_book.proofs.Keeping.{IsNew, desk_entries, new_desk, new_reply, has_outputs, since_at}
 use Rattle.plain_book.proofs.Lists.{in_last}
 use Rattle.plain_book.proofs.Locks.{is_free}
@@ -64,8 +65,8 @@ made_of s claims entries p m at is whole after =
       fits = record {
         room = omega (arith, after.places, after.room, length-append entries m.entries);
         ats = rw is (subst (λ (k : ℕ). All (λ e. e.at ≡ k) (call_entries s p.journal entries m.call)) at (request_ats s p.journal entries m.call.at m.call.tick m.call.request));
-        rows = all_right (IsEntryOk s.device) entries m.entries all.rows;
-        timely = all_right (λ (e : Entry). begin s e.at ≤ due e) entries m.entries all.timely;
+        rows = All-right (IsEntryOk s.device) entries m.entries all.rows;
+        timely = All-right (λ (e : Entry). begin s e.at ≤ due e) entries m.entries all.timely;
         starts = rw is (request_dues (λ (key : ℕ). start s key < nanos_limit) s p.journal entries m.call.at m.call.tick m.call.request
             (have_starts s p.seen (p.journal ++ m.call ∷ []) after.legal m.call (in_last p.journal m.call)));
       };

@@ -2,6 +2,7 @@
 use Rattle.std.proofs.Common.{◌≡◌, ℕ, List, length, map, Option, None, refl, ap, ◌∙◌}
 use Rattle.std.specs.Prelude.{option_map}
 use Rattle.std.specs.List.{range_with_len}
+use Rattle.list_laws.proofs.Ranges.{map_same_below}
 use Rattle.map_entry.specs.Setup.{SetupParts}
 use Rattle.map_entry.specs.declared.cell.Cell.{Cell}
 use Rattle.map_entry.specs.declared.entry.Entry.{Entry}
@@ -15,7 +16,7 @@ use Rattle.plain_book.specs.declared.replies.PendingItem.{PendingItem}
 use Rattle.plain_book.specs.declared.replies.Reply.TheVariants.{Active, Pending}
 use Rattle.plain_book.specs.declared.replies.Reply.{Reply}
 use Rattle.plain_book.specs.declared.requests.Request.TheVariants.{Active as AskActive, Pending as AskPending}
-use Rattle.plain_book.proofs.Alike.{range_same, row_alike}
+use Rattle.plain_book.proofs.Alike.{row_alike}
 use Rattle.plain_book.proofs.Keeping.{has_outputs, last_at, pending_at, since_at}
 
 pub active_reply : (s : SetupParts) (claims first : ℕ) (entries : List Entry) (kept : KeptParts) (rows : List (List Cell)) → IsDesk s claims entries kept → kept.seen ≡ claims
@@ -24,7 +25,7 @@ unfolding reply_of
 active_reply s claims first entries kept rows desk at rows_is =
     ap (λ (l : Option Activation). Active (active_view l rows)) (last_at s claims entries kept desk at)
     ∙ ap (λ (r : List (List Cell)). Active (active_view (option_map shown (last_of s kept.journal claims)) r))
-    (rows_is ∙ range_same (λ output. row_from s entries output claims) (λ output. row_from s (entries_of s kept.journal) output claims) (length s.device.outputs) (λ o low. row_alike s kept.from claims entries kept.journal o (has_outputs s desk.setup) desk.alike (since_at s claims entries kept desk) low))
+    (rows_is ∙ map_same_below (λ output. row_from s entries output claims) (λ output. row_from s (entries_of s kept.journal) output claims) (length s.device.outputs) (λ o low. row_alike s kept.from claims entries kept.journal o (has_outputs s desk.setup) desk.alike (since_at s claims entries kept desk) low))
 
 pub pending_reply : (s : SetupParts) (claims : ℕ) (entries : List Entry) (kept : KeptParts) (made : List PendingItem) → IsDesk s claims entries kept → kept.seen ≡ claims → made ≡ kept.pending → Pending made ≡ reply_of s kept.journal claims AskPending
 unfolding reply_of

@@ -1,13 +1,14 @@
 -- Each entry of a legal journal has a row that passes the check, and counts from no moment that had begun.
-use Rattle.std.proofs.Common.{◌≡◌, ℕ, zero, suc, ◌+◌, ◌<◌, ◌≤◌, Bool, true, false, eqb, ltb, List, [], ◌∷◌, ◌++◌, length, get_or, map, Option, Some, None, inl, inr, refl, sym, ap, subst, ◌∙◌, eq-eqb, zero-add, arith}
-use Rattle.std.specs.Prelude.{IsSome, slice_get, option_map, ◌&&◌, not, if◌then◌else◌}
+use Rattle.std.proofs.Common.{◌≡◌, ℕ, zero, suc, ◌+◌, ◌<◌, ◌≤◌, Bool, true, false, ltb, List, [], ◌∷◌, ◌++◌, length, get_or, map, Option, Some, None, inl, inr, refl, sym, ap, subst, ◌∙◌, eq-eqb, zero-add, arith}
+use Rattle.std.specs.Prelude.{IsSome, slice_get, option_map, if◌then◌else◌}
 use Rattle.std.specs.List.{AllByRecursion, range_with_len}
 use Rattle.std.specs.Option.{option_or, option_map_or, unwrap_or}
-use Rattle.std.proofs.lemmas.Bool.{and_parts, le-ltb, eqb-true, false≢true, ltb-true}
-use Rattle.std.proofs.lemmas.List.Elements.{recursion_from_All, All-from_recursion}
+use Rattle.std.proofs.lemmas.Bool.{le-ltb, false≢true, ltb-true}
+use Rattle.std.proofs.lemmas.List.Elements.{All-from_recursion}
 use Rattle.std.proofs.lemmas.List.FromFn.{get_or-map-range_with_len, length-map-range_with_len}
+use Rattle.map_entry.proofs.Entries.{selected_has}
 use Rattle.map_entry.specs.Action.{OutputChangeParts, applied}
-use Rattle.map_entry.specs.Entry.{IsEntryOk, due, row_where, rules, selected}
+use Rattle.map_entry.specs.Entry.{IsEntryOk, due, rules, selected}
 use Rattle.map_entry.specs.Row.{IsRowOf, row_fault}
 use Rattle.map_entry.specs.Setup.{IsSetup, SetupParts}
 use Rattle.map_entry.specs.declared.cell.Cell.{Cell}
@@ -67,21 +68,6 @@ counts_later s before call is = elim (cases s before call is) [
 
 -- ---- selected rows
 
-both_left : (a b : Bool) → (a && b) ≡ true → a ≡ true
-both_left a b h = (and_parts a b h).0
-
-picked : (P : ℕ → List Cell → Type 0) (output : ℕ) (above : Option (List Cell)) (here : Bool) (e : Entry) (row : List Cell) → (above ≡ Some row → P output row) → (here ≡ true → P output e.row)
-    → option_or above (row_where here e) ≡ Some row → P output row
-picked P output (Some r) here e row up at is = up is
-picked P output None true e row up at is = let same : e.row ≡ row = cc in subst (P output) same (at refl)
-picked P output None false e row up at is = absurd cc
-
-pub selected_has : (P : ℕ → List Cell → Type 0) (entries : List Entry) (output tick : ℕ) (row : List Cell) → AllByRecursion (λ e. P e.output e.row) entries → selected entries output tick ≡ Some row → P output row
-selected_has P [] output tick row fit is = absurd cc
-selected_has P (e ∷ entries) output tick row fit is =
-    picked P output (selected entries output tick) (rules due output tick e) e row (λ up. selected_has P entries output tick row fit.1 up)
-    (λ here. subst (λ (k : ℕ). P k e.row) (eqb-true e.output output (both_left (eqb e.output output) (not (ltb tick e.tick)) here)) fit.0) is
-
 -- what holds of the calls so far
 pub record IsSound (s : SetupParts) (journal : List JournalCall) : Type 0 where
   pub rows : AllByRecursion (IsEntryOk s.device) (entries_of s journal)
@@ -96,7 +82,7 @@ unwrapped P (Some row) there each = each row refl
 pub row_from_is : (s : SetupParts) (journal : List JournalCall) (output claims : ℕ) → IsSound s journal → output < length s.device.outputs → IsRowOf s.device output (row_from s (entries_of s journal) output claims)
 row_from_is s journal output claims sound lt =
     unwrapped (IsRowOf s.device output) (selected (entries_of s journal) output (begin s claims)) (sound.cover output (begin s claims) lt (omega arith))
-    (λ row e. selected_has (IsRowOf s.device) (entries_of s journal) output (begin s claims) row sound.rows e)
+    (λ row e. selected_has (IsRowOf s.device) due (entries_of s journal) output (begin s claims) row (All-from_recursion (IsEntryOk s.device) (entries_of s journal) sound.rows) e)
 
 -- ---- base entries
 
@@ -219,7 +205,7 @@ entries_are s m journal checked some legal =
 
 -- what is selected for an output is a row of it
 pub row_is : (s : SetupParts) (since : ℕ) (entries : List Entry) (output tick : ℕ) (row : List Cell) → AreEntries s since entries → selected entries output tick ≡ Some row → IsRowOf s.device output row
-row_is s since entries output tick row are is = selected_has (IsRowOf s.device) entries output tick row (recursion_from_All (IsEntryOk s.device) entries are.rows) is
+row_is s since entries output tick row are is = selected_has (IsRowOf s.device) due entries output tick row are.rows is
 
 -- each output has a row
 pub has_row : (s : SetupParts) (since : ℕ) (entries : List Entry) (output : ℕ) → AreEntries s since entries → output < length s.device.outputs → IsSome (selected entries output since)

@@ -1,8 +1,8 @@
 -- Accepted activations count from keys that have a start.
-use Rattle.std.proofs.Common.{◌≡◌, ℕ, ◌+◌, ◌*◌, ◌/◌, ◌<◌, ◌≤◌, ◌^◌, Bool, true, false, List, [], ◌∷◌, ◌++◌, length, inl, inr, refl, sym, subst, arith}
-use Rattle.std.specs.Prelude.{not, nat_lt, All}
+use Rattle.std.proofs.Common.{◌≡◌, ℕ, ◌+◌, ◌*◌, ◌/◌, ◌<◌, ◌≤◌, ◌^◌, false, List, [], ◌∷◌, ◌++◌, length, inl, inr, refl, sym, subst, arith}
+use Rattle.std.specs.Prelude.{nat_lt, All}
 use Rattle.std.specs.Int.{div_ceil}
-use Rattle.std.proofs.lemmas.Bool.{or_parts, ltb-true, lt-ltb, false≢true}
+use Rattle.std.proofs.lemmas.Bool.{or_parts, ltb-true, lt-ltb, false≢true, not-false}
 use Rattle.std.proofs.lemmas.List.Elements.{All-from_recursion}
 use Rattle.std.proofs.lemmas.Grind.{div_ceil_times}
 use Rattle.std.proofs.Math.Nat.{add-mul, div-lt_iff_lt-mul, mul-div_cancel, mul-le-mul_left, mul-le-mul_right, mul_assoc}
@@ -22,12 +22,8 @@ use Rattle.plain_book.proofs.Prefixes.{legal_by}
 use Rattle.plain_book.proofs.Refusing.{in_time}
 use Rattle.plain_book.proofs.Waiting.{HasOutputs, taken_back}
 
-unflip : (b : Bool) → not b ≡ false → b ≡ true
-unflip true e = refl
-unflip false e = absurd (false≢true (sym e))
-
 not_past : (nanos : ℕ) → is_past nanos ≡ false → nanos < nanos_limit
-not_past nanos is = ltb-true nanos nanos_limit (unflip (nat_lt nanos nanos_limit) is)
+not_past nanos is = ltb-true nanos nanos_limit (not-false (nat_lt nanos nanos_limit) is)
 
 -- the key from which an accepted activation counts begins before the end of time
 landing_start : (s : SetupParts) (before : List JournalCall) (call : JournalCall) (when : When) (action : List OutputChangeParts) → IsActivated s before call when action → start s (call_due call) < nanos_limit

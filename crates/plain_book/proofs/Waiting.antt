@@ -1,8 +1,8 @@
 -- The calls of a legal journal: their ids, and which of them are pending.
-use Rattle.std.proofs.Common.{◌≡◌, ℕ, ◌+◌, ◌<◌, ◌≤◌, ◌⊎◌, Bool, true, false, eqb, List, [], ◌∷◌, ◌++◌, length, Some, inl, inr, refl, sym, ap, ◌∙◌, arith}
-use Rattle.std.specs.Prelude.{◌||◌, not, cond}
+use Rattle.std.proofs.Common.{◌≡◌, ℕ, ◌+◌, ◌<◌, ◌≤◌, ◌⊎◌, true, false, eqb, List, [], ◌∷◌, ◌++◌, length, Some, inl, inr, refl, sym, ap, ◌∙◌, arith}
+use Rattle.std.specs.Prelude.{◌||◌, cond}
 use Rattle.std.specs.List.{list_any}
-use Rattle.std.proofs.lemmas.Bool.{and_parts, cases_Bool, or_cases, or_parts, or_from, ltb-true, lt-ltb, eqb-true, false≢true, false_from_ne_true}
+use Rattle.std.proofs.lemmas.Bool.{and_parts, cases_Bool, or_cases, or_parts, or_from, ltb-true, lt-ltb, eqb-true, false≢true, false_from_ne_true, not-true}
 use Rattle.std.proofs.lemmas.List.Folds.{list_any-append}
 use Rattle.std.proofs.lemmas.List.Sums.{sum_by-append}
 use Rattle.map_entry.specs.Action.{OutputChangeParts}
@@ -136,15 +136,11 @@ pub record IsWaiting (s : SetupParts) (journal : List JournalCall) (claims : ℕ
   pub later : begin s claims < call_due call
   pub stands : is_deleted journal call.id ≡ false
 
-pub not_true : (b : Bool) → not b ≡ true → b ≡ false
-not_true true h = absurd (false≢true h)
-not_true false h = refl
-
 pub waits : (s : SetupParts) (journal : List JournalCall) (claims : ℕ) (call : JournalCall) → is_pending s journal claims call ≡ true → IsWaiting s journal claims call
 waits s journal claims call h =
     let a = and_parts _ _ h in
     let b = and_parts _ _ a.1 in
-    record { scheduled = a.0; later = ltb-true (begin s claims) (call_due call) b.0; stands = not_true (is_deleted journal call.id) b.1 }
+    record { scheduled = a.0; later = ltb-true (begin s claims) (call_due call) b.0; stands = not-true (is_deleted journal call.id) b.1 }
 
 pub waiting : (s : SetupParts) (journal : List JournalCall) (claims : ℕ) (call : JournalCall) → IsWaiting s journal claims call → is_pending s journal claims call ≡ true
 waiting s journal claims call w = rw (w.scheduled, lt-ltb (begin s claims) (call_due call) w.later, w.stands) refl

@@ -1,11 +1,13 @@
 //! What a book decides, over its table's entries and what it keeps. Nothing is changed.
 
-ghost use Rattle.std.specs.Prelude.{◌≡◌, ◌<◌, ◌≤◌, ◌+◌, ◌*◌, false, IfOk, IfNone, None, length, option_map};
+ghost use Rattle.std.specs.Prelude.{◌≡◌, ◌<◌, ◌≤◌, ◌+◌, ◌*◌, false, IfOk, IfNone, None, length};
+ghost use Rattle.std.specs.Prelude.{option_map};
 ghost use Rattle.std.specs.Option.{option_copied};
 ghost use Rattle.io_caps.specs.declared.limits.TheConstants.{PLACES};
 ghost use Rattle.map_entry.specs.declared.claims.TheConstants.{CLAIMS_LIMIT};
 ghost use Rattle.plain_book.specs.Book.{refusal_of};
-ghost use Rattle.plain_book.specs.Desk.{IsDecided, IsDesk, IsOpen, item_above, item_at, last_behind, parts, refusal_from, taken_by};
+ghost use Rattle.plain_book.specs.Desk.{IsDecided, IsDesk, IsOpen, item_above, item_at};
+ghost use Rattle.plain_book.specs.Desk.{last_behind, parts, refusal_from, taken_by};
 ghost use Rattle.plain_book.specs.Full.{full_from, places_each};
 ghost use Rattle.plain_book.specs.Pending.{pending_call};
 ghost use Rattle.plain_book.specs.Replies.{accepted};

@@ -1,6 +1,7 @@
 //! Books that are asked: the trait of whoever is asked, and the book on one thread.
 
-ghost use Rattle.std.specs.Prelude.{◌≡◌, ◌+◌, ◌<◌, ◌≤◌, ◌++◌, ◌∷◌, List, [], ℕ, IfOk, OnOk, OnErr, Some, length};
+ghost use Rattle.std.specs.Prelude.{◌≡◌, ◌+◌, ◌<◌, ◌≤◌, ◌++◌, ◌∷◌, List, [], ℕ, IfOk, OnOk, OnErr};
+ghost use Rattle.std.specs.Prelude.{Some, length};
 ghost use Rattle.map_entry.specs.Entry.{selected};
 ghost use Rattle.map_entry.specs.Row.{IsRowOf};
 ghost use Rattle.map_entry.specs.Setup.{SetupParts};
@@ -38,12 +39,16 @@ pub trait Desk {
     /// What an ask keeps of what it was lent.
     ghost keeps: { Self → Self → Type 0 };
 
+    /// At which numbers of claims it may answer.
+    ghost answers_at: { Self → ℕ → Type 0 };
+
     /// Answers a client's request at its journal and a number of claims, and keeps the call where
     /// it accepts one. Every other answer and want of memory leave the journal as it was.
     fn ask(&mut self, client: u8, request: &Request) -> Result<(Reply, Stamp), NoMemory>
         requires { ready self.old client }
         ensures asked { IfOk result (λ r. IsAsked (setup self.old) (journal self.old) (journal
             self.new) client request.now r.0 r.1) }
+        ensures claims { IfOk result (λ r. answers_at self.old r.1.claims) }
         ensures err { OnErr result (journal self.new ≡ journal self.old) }
         ensures setup { setup self.new ≡ setup self.old }
         ensures lent { lent self.new ≡ lent self.old }
@@ -292,6 +297,8 @@ impl Desk for PlainDesk {
     ghost lent = { λ d. (0, 0) };
 
     ghost keeps = { λ a b. a.claims ≡ b.claims };
+
+    ghost answers_at = { λ d claims. claims ≡ d.claims };
 
     fn ask(&mut self, client: u8, request: &Request) -> Result<(Reply, Stamp), NoMemory>
         ensures asked { IfOk result (λ r. IsAsked self.old.setup self.old.journal self.new.journal

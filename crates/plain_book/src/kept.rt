@@ -2,7 +2,8 @@
 //! can be taken back, and then settled.
 
 ghost use Rattle.std.specs.Prelude.{◌≡◌, ◌<◌, List, eqb, not, filter, OnOk, OnErr};
-ghost use Rattle.plain_book.specs.Desk.{IsDesk, cut, is_above, latest_item, later_item, looked_at, parts, settled, shown_item, staged};
+ghost use Rattle.plain_book.specs.Desk.{IsDesk, cut, is_above, latest_item, later_item, looked_at};
+ghost use Rattle.plain_book.specs.Desk.{parts, settled, shown_item, staged};
 ghost use Rattle.std.specs.Option.{option_or};
 ghost use Rattle.map_entry.specs.declared.entry.Entry.{Entry};
 ghost use Rattle.map_entry.specs.declared.claims.TheConstants.{CLAIMS_LIMIT};

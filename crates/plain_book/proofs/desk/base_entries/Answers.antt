@@ -1,6 +1,7 @@
-use Rattle.std.proofs.Common.{◌≡◌, ℕ, List, [], ◌∷◌, ◌++◌, length, map, refl, sym, ap, ◌∙◌, arith}
+use Rattle.std.proofs.Common.{◌≡◌, ℕ, List, [], ◌∷◌, ◌++◌, length, map, refl, sym, ap, ◌∙◌, arith, zero-add}
 use Rattle.std.specs.List.{range_with_len}
 use Rattle.std.proofs.lemmas.Option.{slice_get_read}
+use Rattle.std.proofs.lemmas.List.FromFn.{map-range_with_len_more}
 use Rattle.map_entry.specs.Setup.{SetupParts}
 use Rattle.map_entry.specs.Entry.{entry_of}
 use Rattle.map_entry.specs.declared.cell.Cell.{Cell}
@@ -8,7 +9,6 @@ use Rattle.map_entry.specs.declared.entry.Entry.{Entry}
 use Rattle.map_entry.proofs.Rows.{rows_long}
 use Rattle.plain_book.specs.Journal.{base_entry}
 use Rattle.plain_book.proofs.Base.{entry_is}
-use Rattle.plain_book.proofs.Ranges.{map_range_more}
 use Rattle.plain_book.proofs.desk.base_entries.Goals as goal
 
 pub overflow_cast-output : goal.overflow_cast-output
@@ -24,7 +24,7 @@ loop-output-preserved c =
     let entry =
     c.new.ensures ∙ ap (λ (t : ℕ). entry_of o t c.in_ok-row.row 0) tick ∙ ap (λ (r : List Cell). entry_of o s.device.base r 0) c.in_ok-row.ensures ∙ entry_is s o c.index-rows-output.result read in
     c.in_ok-push.ensures.ok ∙ ap (λ (z : List Entry). z ++ c.new.result ∷ []) c.loop-output.invariant
-    ∙ ap (λ (e : Entry). map (base_entry s) (range_with_len 0 o) ++ e ∷ []) entry ∙ sym (map_range_more (base_entry s) o)
+    ∙ ap (λ (e : Entry). map (base_entry s) (range_with_len 0 o) ++ e ∷ []) entry ∙ sym (map-range_with_len_more (base_entry s) 0 o o (zero-add o))
 
 pub returns : goal.returns
 returns c =
