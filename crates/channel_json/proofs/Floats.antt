@@ -1,5 +1,7 @@
 -- Values that have no fraction.
-use Rattle.std.proofs.Common.{◌≡◌, ℕ, ◌+◌, List, [], ◌∷◌, map, decimal, cond, nat_lt, Option, Some, None, Bool, true, false, Ordering, Less, Equal, Greater, nat_cmp, refl}
+use Rattle.std.proofs.Common.{◌≡◌, ℕ, ◌+◌, List, [], ◌∷◌, map, decimal, cond, nat_lt, Option, Some}
+use Rattle.std.proofs.Common.{None, Bool, true, false, Ordering, Less, Equal, Greater, nat_cmp}
+use Rattle.std.proofs.Common.{refl}
 use Rattle.std.specs.Ordering.{match_ordering}
 use Rattle.std.specs.Cmp.Lexicographic.{slice_cmp}
 use Rattle.std.proofs.lemmas.Bool.{or_parts}
@@ -26,38 +28,60 @@ use Rattle.plain_book.specs.declared.replies.Activation.{Activation}
 use Rattle.plain_book.specs.declared.replies.ActiveView.{ActiveView}
 use Rattle.plain_book.specs.declared.replies.PendingItem.{PendingItem}
 use Rattle.channel_json.specs.declared.resource.Resource.{Resource}
-use Rattle.channel_json.specs.declared.resource.Resource.TheVariants.{Slash, Nmos, Mapping, Version, Inputs, Outputs, Input as OneInput, Output as OneOutput, InputProperties, OutputProperties, Parent as ParentOf, InputChannels, OutputChannels, InputCaps, SourceId, OutputCaps, Map, Io}
+use Rattle.channel_json.specs.declared.resource.Resource.TheVariants.{Slash, Nmos, Mapping, Version}
+use Rattle.channel_json.specs.declared.resource.Resource.TheVariants.{Inputs, Outputs}
+use Rattle.channel_json.specs.declared.resource.Resource.TheVariants.{Input as OneInput}
+use Rattle.channel_json.specs.declared.resource.Resource.TheVariants.{Output as OneOutput}
+use Rattle.channel_json.specs.declared.resource.Resource.TheVariants.{InputProperties}
+use Rattle.channel_json.specs.declared.resource.Resource.TheVariants.{OutputProperties}
+use Rattle.channel_json.specs.declared.resource.Resource.TheVariants.{Parent as ParentOf}
+use Rattle.channel_json.specs.declared.resource.Resource.TheVariants.{InputChannels, OutputChannels}
+use Rattle.channel_json.specs.declared.resource.Resource.TheVariants.{InputCaps, SourceId}
+use Rattle.channel_json.specs.declared.resource.Resource.TheVariants.{OutputCaps, Map, Io}
 use Rattle.channel_json.specs.Values.{array_of, object_of, with_members}
-use Rattle.channel_json.specs.Cells.{cell_data, numbered, change_member, output_member, action_data, row_of, row_member, outputs_shown, map_data}
-use Rattle.channel_json.specs.Activations.{time_data, start_data, requested_data, activation_data, last_data, item_data, accepted_data, pending_member, pending_data, active_data}
-use Rattle.channel_json.specs.Resources.{parent_data, label_data, channels_data, source_data, choice_data, routable_data, output_caps_data, input_data, output_data, io_data, name_data, resource_data}
+use Rattle.channel_json.specs.Cells.{cell_data, numbered, change_member, output_member, action_data}
+use Rattle.channel_json.specs.Cells.{row_of, row_member, outputs_shown, map_data}
+use Rattle.channel_json.specs.Activations.{time_data, start_data, requested_data, activation_data}
+use Rattle.channel_json.specs.Activations.{last_data, item_data, accepted_data, pending_member}
+use Rattle.channel_json.specs.Activations.{pending_data, active_data}
+use Rattle.channel_json.specs.Resources.{parent_data, label_data, channels_data, source_data}
+use Rattle.channel_json.specs.Resources.{choice_data, routable_data, output_caps_data, input_data}
+use Rattle.channel_json.specs.Resources.{output_data, io_data, name_data, resource_data}
 
 pub neither : (a b : Bool) → a ≡ false → b ≡ false → (a || b) ≡ false
 neither true b p q = p
 neither false b p q = q
 
-at : (o : Ordering) (k l : List ℕ) (d e : Data) (ms : Members) → has_float d ≡ false → has_float e ≡ false
+at : (o : Ordering) (k l : List ℕ) (d e : Data) (ms : Members) → has_float d ≡ false
+    → has_float e ≡ false
     → members_have_float ms ≡ false → members_have_float (put k d ms) ≡ false
-    → members_have_float (match_ordering o (member k d (member l e ms)) (member l d ms) (member l e (put k d ms))) ≡ false
+    → members_have_float
+    (match_ordering o (member k d (member l e ms)) (member l d ms) (member l e (put k d ms)))
+    ≡ false
 at Less k l d e ms p q r s = neither _ _ p (neither _ _ q r)
 at Equal k l d e ms p q r s = neither _ _ p r
 at Greater k l d e ms p q r s = neither _ _ q s
 
-members_have_float-put : (k : List ℕ) (d : Data) (ms : Members) → has_float d ≡ false → members_have_float ms ≡ false
+members_have_float-put : (k : List ℕ) (d : Data) (ms : Members) → has_float d ≡ false
+    → members_have_float ms ≡ false
     → members_have_float (put k d ms) ≡ false
 members_have_float-put k d no_members p q = neither _ _ p refl
 members_have_float-put k d (member l e ms) p q =
     let parts = or_parts (has_float e) (members_have_float ms) q in
-    at (slice_cmp nat_cmp k l) k l d e ms p parts.0 parts.1 (members_have_float-put k d ms p parts.1)
+    at (slice_cmp nat_cmp k l) k l d e ms p parts.0 parts.1
+    (members_have_float-put k d ms p parts.1)
 
-pub whole_members : {X : Type 0} (f : X → List ℕ × Data) (xs : List X) (ms : Members) → ((x : X) → has_float (f x).1 ≡ false)
+pub whole_members : {X : Type 0} (f : X → List ℕ × Data) (xs : List X) (ms : Members)
+    → ((x : X) → has_float (f x).1 ≡ false)
     → members_have_float ms ≡ false
     → members_have_float (with_members (map f xs) ms) ≡ false
 whole_members f [] ms each h = h
-whole_members f (x ∷ xs) ms each h = whole_members f xs _ each (members_have_float-put (f x).0 (f x).1 ms (each x) h)
+whole_members f (x ∷ xs) ms each h =
+    whole_members f xs _ each (members_have_float-put (f x).0 (f x).1 ms (each x) h)
 
 -- an object, each of whose members has none
-pub whole_object : {X : Type 0} (f : X → List ℕ × Data) (xs : List X) → ((x : X) → has_float (f x).1 ≡ false)
+pub whole_object : {X : Type 0} (f : X → List ℕ × Data) (xs : List X)
+    → ((x : X) → has_float (f x).1 ≡ false)
     → has_float (object_of (map f xs)) ≡ false
 whole_object f xs each = whole_members f xs no_members each refl
 
@@ -73,19 +97,27 @@ pub whole_cell : (device : DeviceParts) (cell : Cell) → has_float (cell_data d
 whole_cell device Unrouted = refl
 whole_cell device (From input channel) = refl
 
-whole_numbered : (device : DeviceParts) (channel : ℕ) (cells : List Cell) (ms : Members) → members_have_float ms ≡ false
+whole_numbered : (device : DeviceParts) (channel : ℕ) (cells : List Cell) (ms : Members)
+    → members_have_float ms ≡ false
     → members_have_float (with_members (numbered device channel cells) ms) ≡ false
 whole_numbered device channel [] ms h = h
 whole_numbered device channel (cell ∷ cells) ms h =
-    whole_numbered device (channel + 1) cells _ (members_have_float-put (decimal channel) (cell_data device cell) ms (whole_cell device cell) h)
+    whole_numbered device (channel + 1) cells _
+    (members_have_float-put (decimal channel) (cell_data device cell) ms
+    (whole_cell device cell) h)
 
-whole_action : (device : DeviceParts) (action : List OutputChangeParts) → has_float (action_data device action) ≡ false
+whole_action : (device : DeviceParts) (action : List OutputChangeParts)
+    → has_float (action_data device action) ≡ false
 whole_action device action =
-    whole_object (output_member device) action (λ c. whole_object (change_member device) c.changes (λ change. whole_cell device change.cell))
+    whole_object (output_member device) action
+    (λ c. whole_object (change_member device) c.changes
+    (λ change. whole_cell device change.cell))
 
-whole_map : (device : DeviceParts) (rows : List (List Cell)) (only : Option ℕ) → has_float (map_data device rows only) ≡ false
+whole_map : (device : DeviceParts) (rows : List (List Cell)) (only : Option ℕ)
+    → has_float (map_data device rows only) ≡ false
 whole_map device rows only =
-    whole_object (row_member device rows) (outputs_shown device only) (λ output. whole_numbered device 0 (row_of rows output) no_members refl)
+    whole_object (row_member device rows) (outputs_shown device only)
+    (λ output. whole_numbered device 0 (row_of rows output) no_members refl)
 
 -- ---- activations
 
@@ -101,26 +133,35 @@ whole_requested Now = refl
 whole_requested (At time) = refl
 whole_requested (After time) = refl
 
-whole_activation : (device : DeviceParts) (when : When) (tick : ℕ) → has_float (activation_data device when tick) ≡ false
-whole_activation device when tick = neither _ _ (whole_start device.rate tick) (neither _ _ (whole_requested when) refl)
+whole_activation : (device : DeviceParts) (when : When) (tick : ℕ)
+    → has_float (activation_data device when tick) ≡ false
+whole_activation device when tick =
+    neither _ _ (whole_start device.rate tick) (neither _ _ (whole_requested when) refl)
 
-whole_last : (device : DeviceParts) (last : Option Activation) → has_float (last_data device last) ≡ false
+whole_last : (device : DeviceParts) (last : Option Activation)
+    → has_float (last_data device last) ≡ false
 whole_last device None = refl
 whole_last device (Some activation) = whole_activation device activation.when activation.tick
 
 pub whole_item : (device : DeviceParts) (when : When) (tick : ℕ) (action : List OutputChangeParts)
     → has_float (item_data device when tick action) ≡ false
-whole_item device when tick action = neither _ _ (whole_action device action) (neither _ _ (whole_activation device when tick) refl)
+whole_item device when tick action =
+    neither _ _ (whole_action device action) (neither _ _ (whole_activation device when tick) refl)
 
-pub whole_accepted : (device : DeviceParts) (id : ℕ) (when : When) (tick : ℕ) (action : List OutputChangeParts)
+pub whole_accepted : (device : DeviceParts) (id : ℕ) (when : When) (tick : ℕ)
+    (action : List OutputChangeParts)
     → has_float (accepted_data device id when tick action) ≡ false
 whole_accepted device id when tick action = neither _ _ (whole_item device when tick action) refl
 
-pub whole_pending : (device : DeviceParts) (items : List PendingItem) → has_float (pending_data device items) ≡ false
-whole_pending device items = whole_object (pending_member device) items (λ i. whole_item device i.when i.tick i.action)
+pub whole_pending : (device : DeviceParts) (items : List PendingItem)
+    → has_float (pending_data device items) ≡ false
+whole_pending device items =
+    whole_object (pending_member device) items (λ i. whole_item device i.when i.tick i.action)
 
-pub whole_active : (device : DeviceParts) (view : ActiveView) (only : Option ℕ) → has_float (active_data device view only) ≡ false
-whole_active device view only = neither _ _ (whole_last device view.last) (neither _ _ (whole_map device view.rows only) refl)
+pub whole_active : (device : DeviceParts) (view : ActiveView) (only : Option ℕ)
+    → has_float (active_data device view only) ≡ false
+whole_active device view only =
+    neither _ _ (whole_last device view.last) (neither _ _ (whole_map device view.rows only) refl)
 
 -- ---- resources
 
@@ -136,15 +177,19 @@ whole_source : (source : Option ℕ) → has_float (source_data source) ≡ fals
 whole_source None = refl
 whole_source (Some id) = refl
 
-whole_choice : (device : DeviceParts) (choice : Option ℕ) → has_float (choice_data device choice) ≡ false
+whole_choice : (device : DeviceParts) (choice : Option ℕ)
+    → has_float (choice_data device choice) ≡ false
 whole_choice device None = refl
 whole_choice device (Some input) = refl
 
-whole_routable : (device : DeviceParts) (routable : Routable) → has_float (routable_data device routable) ≡ false
+whole_routable : (device : DeviceParts) (routable : Routable)
+    → has_float (routable_data device routable) ≡ false
 whole_routable device Anything = refl
-whole_routable device (Only choices) = whole_array (choice_data device) choices (whole_choice device)
+whole_routable device (Only choices) =
+    whole_array (choice_data device) choices (whole_choice device)
 
-whole_output_caps : (device : DeviceParts) (o : Output) → has_float (output_caps_data device o) ≡ false
+whole_output_caps : (device : DeviceParts) (o : Output)
+    → has_float (output_caps_data device o) ≡ false
 whole_output_caps device o = neither _ _ (whole_routable device o.routable) refl
 
 whole_input : (i : Input) → has_float (input_data i) ≡ false
@@ -158,14 +203,16 @@ whole_output device o =
 whole_io : (device : DeviceParts) → has_float (io_data device) ≡ false
 whole_io device =
     neither _ _ (whole_object (λ i. (i.id, input_data i)) device.inputs whole_input)
-    (neither _ _ (whole_object (λ o. (o.id, output_data device o)) device.outputs (whole_output device)) refl)
+    (neither _ _ (whole_object (λ o. (o.id, output_data device o)) device.outputs
+    (whole_output device)) refl)
 
 of_there : {X : Type 0} (part : X → Data) (item : Option X) → ((x : X) → has_float (part x) ≡ false)
     → has_float (option_map_or part item null) ≡ false
 of_there part None each = refl
 of_there part (Some x) each = each x
 
-pub whole_resource : (device : DeviceParts) (resource : Resource) → has_float (resource_data device resource) ≡ false
+pub whole_resource : (device : DeviceParts) (resource : Resource)
+    → has_float (resource_data device resource) ≡ false
 whole_resource device Slash = refl
 whole_resource device Nmos = refl
 whole_resource device Mapping = refl
@@ -174,13 +221,20 @@ whole_resource device Inputs = whole_array (λ i. name_data i.id) device.inputs 
 whole_resource device Outputs = whole_array (λ o. name_data o.id) device.outputs (λ o. refl)
 whole_resource device OneInput = refl
 whole_resource device OneOutput = refl
-whole_resource device (InputProperties input) = of_there _ (slice_get device.inputs input) (λ i. refl)
-whole_resource device (OutputProperties output) = of_there _ (slice_get device.outputs output) (λ o. refl)
-whole_resource device (ParentOf input) = of_there _ (slice_get device.inputs input) (λ i. whole_parent i.parent)
-whole_resource device (InputChannels input) = of_there _ (slice_get device.inputs input) (λ i. whole_channels i.labels)
-whole_resource device (OutputChannels output) = of_there _ (slice_get device.outputs output) (λ o. whole_channels o.labels)
+whole_resource device (InputProperties input) =
+    of_there _ (slice_get device.inputs input) (λ i. refl)
+whole_resource device (OutputProperties output) =
+    of_there _ (slice_get device.outputs output) (λ o. refl)
+whole_resource device (ParentOf input) =
+    of_there _ (slice_get device.inputs input) (λ i. whole_parent i.parent)
+whole_resource device (InputChannels input) =
+    of_there _ (slice_get device.inputs input) (λ i. whole_channels i.labels)
+whole_resource device (OutputChannels output) =
+    of_there _ (slice_get device.outputs output) (λ o. whole_channels o.labels)
 whole_resource device (InputCaps input) = of_there _ (slice_get device.inputs input) (λ i. refl)
-whole_resource device (SourceId output) = of_there _ (slice_get device.outputs output) (λ o. whole_source o.source_id)
-whole_resource device (OutputCaps output) = of_there _ (slice_get device.outputs output) (whole_output_caps device)
+whole_resource device (SourceId output) =
+    of_there _ (slice_get device.outputs output) (λ o. whole_source o.source_id)
+whole_resource device (OutputCaps output) =
+    of_there _ (slice_get device.outputs output) (whole_output_caps device)
 whole_resource device Map = refl
 whole_resource device Io = whole_io device

@@ -7,3 +7,4 @@ pub mod MomentLemmas
 pub mod FoundLemmas
 pub mod RequestLemmas
 pub mod DeviceLemmas
+pub mod BodyLemmas

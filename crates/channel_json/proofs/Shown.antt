@@ -1,11 +1,13 @@
 -- Texts as they are written.
-use Rattle.std.proofs.Common.{◌≡◌, ℕ, ◌<◌, Bool, true, false, cond, Option, None, inl, inr, List, [], ◌∷◌, decimal, length, get_or, ◌^◌, zero, suc, refl, arith}
+use Rattle.std.proofs.Common.{◌≡◌, ℕ, ◌<◌, Bool, true, false, cond, Option, None, inl, inr, List}
+use Rattle.std.proofs.Common.{[], ◌∷◌, decimal, length, get_or, ◌^◌, zero, suc, refl, arith}
 use Rattle.std.specs.Str.{is_utf8, IsUtf8}
 use Rattle.std.proofs.lemmas.Bool.{cases_lt}
 use Rattle.std.proofs.lemmas.Fmt.{IsAscii-decimal}
 use Rattle.std.proofs.lemmas.List.{get_or_past}
 use Rattle.std.proofs.lemmas.List.Elements.{All-get_or}
-use Rattle.std.proofs.lemmas.Str.{IsUtf8-from_is_utf8, is_utf8-from_IsUtf8, IsUtf8-from_ascii, IsUtf8-append}
+use Rattle.std.proofs.lemmas.Str.{IsUtf8-from_is_utf8, is_utf8-from_IsUtf8, IsUtf8-from_ascii}
+use Rattle.std.proofs.lemmas.Str.{IsUtf8-append}
 use Rattle.io_caps.specs.Port.{IsId, IsIdByte}
 use Rattle.tai_time.specs.Time.{TaiTime, IsTaiText, colon, tai_text}
 use Rattle.serde_json.specs.Data.{Data}
@@ -50,15 +52,19 @@ colon_utf8 : IsUtf8 (colon ∷ [])
 colon_utf8 = IsUtf8-from_ascii (colon ∷ []) colon_at
 
 -- the bytes of a time's text are ASCII
-pub shown_time : (time : TaiTime) → IsTaiText (tai_text time) time → shown_text (tai_text time) ≡ tai_text time
+pub shown_time : (time : TaiTime) → IsTaiText (tai_text time) time
+    → shown_text (tai_text time) ≡ tai_text time
 shown_time time h =
     shown_whole (tai_text time)
-    (IsUtf8-append (decimal time.secs) (colon ∷ decimal time.nanos) (number_utf8 time.secs (omega (arith, h.in_range.0)))
-    (IsUtf8-append (colon ∷ []) (decimal time.nanos) colon_utf8 (number_utf8 time.nanos (omega (arith, h.in_range.1)))))
+    (IsUtf8-append (decimal time.secs) (colon ∷ decimal time.nanos)
+    (number_utf8 time.secs (omega (arith, h.in_range.0)))
+    (IsUtf8-append (colon ∷ []) (decimal time.nanos) colon_utf8
+    (number_utf8 time.nanos (omega (arith, h.in_range.1)))))
 
 -- ---- texts that are read
 
-pub document_whole : {o : Option Data} (text : List ℕ) → IsUtf8 text → read text ≡ o → document text ≡ o
+pub document_whole : {o : Option Data} (text : List ℕ) → IsUtf8 text → read text ≡ o
+    → document text ≡ o
 document_whole text h e = rw (is_utf8-from_IsUtf8 text h) e
 
 document_at : (text : List ℕ) (test : Bool) → is_utf8 text ≡ test → (IsUtf8 text → read text ≡ None)

@@ -12,7 +12,8 @@ one_behind (n ∷ more) m object = one_behind more m (put n.0 n.1 object)
 
 -- the member of the next number
 pub one_more : (f : ℕ → List ℕ × Data) (n : ℕ) (object : Members)
-    → put (f n).0 (f n).1 (with_members (map f (range_with_len 0 n)) object) ≡ with_members (map f (range_with_len 0 (n + 1))) object
+    → put (f n).0 (f n).1 (with_members (map f (range_with_len 0 n)) object)
+    ≡ with_members (map f (range_with_len 0 (n + 1))) object
 one_more f n object =
     one_behind (map f (range_with_len 0 n)) (f n) object
     ∙ sym (ap (λ more. with_members more object) (map-range_with_len_more f 0 n n (zero-add n)))

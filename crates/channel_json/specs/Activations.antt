@@ -1,5 +1,7 @@
--- Activations as JSON. (After AMWA IS-08 v1.0: `/map/activations`, `/map/activations/{id}` and `/map/active`.)
-use Rattle.std.specs.Prelude.{ℕ, List, map, nat_lt, Option, Some, None, if◌then◌else◌, codes, decimal}
+-- Activations as JSON. (After AMWA IS-08 v1.0: `/map/activations`, `/map/activations/{id}` and
+-- `/map/active`.)
+use Rattle.std.specs.Prelude.{ℕ, List, map, nat_lt, Option, Some, None, if◌then◌else◌, codes}
+use Rattle.std.specs.Prelude.{decimal}
 use Rattle.serde_json.specs.Data.{Data, null, string, object, no_members, member}
 use Rattle.serde_json.specs.Written.{compact_text}
 use Rattle.io_caps.specs.declared.device.DeviceParts.{DeviceParts}
@@ -21,9 +23,11 @@ use Rattle.channel_json.specs.Cells.{action_data, map_data}
 abbrev pub time_data : TaiTime → Data
 time_data time = string (tai_text time)
 
--- the start of a tick; null where that is past the end of time, where no accepted activation counts from
+-- the start of a tick; null where that is past the end of time, which no accepted activation is
 abbrev pub start_data : Rate → ℕ → Data
-start_data rate tick = if nat_lt (tick_start rate tick) nanos_limit then time_data (time_of (tick_start rate tick)) else null
+start_data rate tick =
+    if nat_lt (tick_start rate tick) nanos_limit then time_data (time_of (tick_start rate tick))
+    else null
 
 -- the word for when an activation is to count
 abbrev pub mode_text : When → List ℕ
@@ -47,7 +51,8 @@ moment_data time mode requested =
 
 -- an activation that counts from a tick
 abbrev pub activation_data : DeviceParts → When → ℕ → Data
-activation_data device when tick = moment_data (start_data device.rate tick) (string (mode_text when)) (requested_data when)
+activation_data device when tick =
+    moment_data (start_data device.rate tick) (string (mode_text when)) (requested_data when)
 
 -- the activation that the active map shows: nulls where there is none
 abbrev pub last_data : DeviceParts → Option Activation → Data
@@ -58,15 +63,18 @@ last_data device (Some activation) = activation_data device activation.when acti
 
 -- an action and its activation
 abbrev pub joined_data : Data → Data → Data
-joined_data action activation = object (member (codes "action") action (member (codes "activation") activation no_members))
+joined_data action activation =
+    object (member (codes "action") action (member (codes "activation") activation no_members))
 
 -- what is changed, and when
 abbrev pub item_data : DeviceParts → When → ℕ → List OutputChangeParts → Data
-item_data device when tick action = joined_data (action_data device action) (activation_data device when tick)
+item_data device when tick action =
+    joined_data (action_data device action) (activation_data device when tick)
 
 -- the reply to an accepted activation: an object with its id as the one key
 abbrev pub accepted_data : DeviceParts → ℕ → When → ℕ → List OutputChangeParts → Data
-accepted_data device id when tick action = object (member (decimal id) (item_data device when tick action) no_members)
+accepted_data device id when tick action =
+    object (member (decimal id) (item_data device when tick action) no_members)
 
 -- a pending activation under its id
 abbrev pub pending_member : DeviceParts → PendingItem → List ℕ × Data
@@ -79,7 +87,8 @@ pending_data device items = object_of (map (pending_member device) items)
 -- the active map: the activation that counted last, and the rows of all outputs or of one alone
 abbrev pub active_data : DeviceParts → ActiveView → Option ℕ → Data
 active_data device view only =
-    object (member (codes "activation") (last_data device view.last) (member (codes "map") (map_data device view.rows only) no_members))
+    object (member (codes "activation") (last_data device view.last)
+    (member (codes "map") (map_data device view.rows only) no_members))
 
 -- the text of the reply to an accepted activation
 abbrev pub accepted_text : DeviceParts → ℕ → When → ℕ → List OutputChangeParts → List ℕ

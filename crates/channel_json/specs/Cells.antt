@@ -1,5 +1,7 @@
--- What is routed, as JSON. (After AMWA IS-08 v1.0: the `action` of `/map/activations`, and the `map` of `/map/active`.)
-use Rattle.std.specs.Prelude.{ℕ, ◌+◌, List, [], ◌∷◌, length, map, Option, Some, None, slice_get, codes, decimal}
+-- What is routed, as JSON. (After AMWA IS-08 v1.0: the `action` of `/map/activations`, and the
+-- `map` of `/map/active`.)
+use Rattle.std.specs.Prelude.{ℕ, ◌+◌, List, [], ◌∷◌, length, map, Option, Some, None, slice_get}
+use Rattle.std.specs.Prelude.{codes, decimal}
 use Rattle.std.specs.List.{range_with_len}
 use Rattle.std.specs.Option.{unwrap_or, option_map_or}
 use Rattle.serde_json.specs.Data.{Data, null, number, unsigned, string, object, no_members, member}
@@ -20,17 +22,20 @@ output_id device output = option_map_or (λ o. o.id) (slice_get device.outputs o
 
 -- an input and its channel
 abbrev pub pair_data : Data → Data → Data
-pair_data channel input = object (member (codes "channel_index") channel (member (codes "input") input no_members))
+pair_data channel input =
+    object (member (codes "channel_index") channel (member (codes "input") input no_members))
 
 -- a cell: nulls where it is unrouted
 abbrev pub cell_data : DeviceParts → Cell → Data
 cell_data device Unrouted = pair_data null null
-cell_data device (From input channel) = pair_data (number (unsigned channel)) (string (input_id device input))
+cell_data device (From input channel) =
+    pair_data (number (unsigned channel)) (string (input_id device input))
 
 -- cells, each under the number of its channel, where the first has this number
 abbrev pub numbered : DeviceParts → ℕ → List Cell → List (List ℕ × Data)
 numbered device channel [] = []
-numbered device channel (cell ∷ cells) = (decimal channel, cell_data device cell) ∷ numbered device (channel + 1) cells
+numbered device channel (cell ∷ cells) =
+    (decimal channel, cell_data device cell) ∷ numbered device (channel + 1) cells
 
 -- a row: an object from channel number to cell
 abbrev pub row_data : DeviceParts → List Cell → Data

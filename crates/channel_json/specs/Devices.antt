@@ -1,5 +1,7 @@
 -- A device as JSON. (This project's own, with the names of AMWA IS-08 v1.0 and IS-04.)
-use Rattle.std.specs.Prelude.{◌≡◌, ℕ, ◌-◌, ◌^◌, ◌==◌, List, [], true, length, map, min, replicate, Option, Some, None, option_map, option_and_then, Result, Ok, Err, if◌then◌else◌, codes}
+use Rattle.std.specs.Prelude.{◌≡◌, ℕ, ◌-◌, ◌^◌, ◌==◌, List, [], true, length, map, min, replicate}
+use Rattle.std.specs.Prelude.{Option, Some, None, option_map, option_and_then, Result, Ok, Err}
+use Rattle.std.specs.Prelude.{if◌then◌else◌, codes}
 use Rattle.std.specs.List.{position}
 use Rattle.std.specs.Str.{bytes_eq}
 use Rattle.serde_json.specs.Data.{Data}
@@ -21,10 +23,12 @@ use Rattle.map_entry.specs.declared.cell.Cell.{Cell}
 use Rattle.map_entry.specs.declared.cell.Cell.TheVariants.{Unrouted, From}
 use Rattle.map_entry.specs.Setup.{SetupParts, setup_of, IsSetup, IsBrokenBy}
 use Rattle.channel_json.specs.declared.faults.DeviceJsonFault.{DeviceJsonFault}
-use Rattle.channel_json.specs.declared.faults.DeviceJsonFault.TheVariants.{NotJson, Shape, Device, Rows}
+use Rattle.channel_json.specs.declared.faults.DeviceJsonFault.TheVariants.{NotJson, Shape, Device}
+use Rattle.channel_json.specs.declared.faults.DeviceJsonFault.TheVariants.{Rows}
 use Rattle.channel_json.specs.declared.devices.Target.{Target}
 use Rattle.channel_json.specs.Values.{document}
-use Rattle.channel_json.specs.Fields.{◌>>=◌, whole_in, whole_at, text_at, list_at, is_null, if_there, each_in}
+use Rattle.channel_json.specs.Fields.{◌>>=◌, whole_in, whole_at, text_at, list_at, is_null}
+use Rattle.channel_json.specs.Fields.{if_there, each_in}
 use Rattle.channel_json.specs.Uuids.{uuid_of}
 
 -- ---- parts of an input or an output
@@ -59,7 +63,10 @@ uuid_in d = option_and_then uuid_of (as_str d)
 
 -- what an input is fed from, by the word for it and its UUID
 abbrev pub parent_of : List ℕ → ℕ → Option Parent
-parent_of kind id = if bytes_eq kind (codes "source") then Some (Source id) else if bytes_eq kind (codes "receiver") then Some (Receiver id) else None
+parent_of kind id =
+    if bytes_eq kind (codes "source") then Some (Source id)
+    else if bytes_eq kind (codes "receiver") then Some (Receiver id)
+    else None
 
 -- what an input is fed from: null, or an object with a word and a UUID
 abbrev pub parent_in : Data → Option Parent
@@ -101,17 +108,22 @@ input_in d = do
 
 -- ---- outputs, which name inputs by their ids
 
--- The number of the input of an id. Numbers end at 255: a device with as many inputs is refused for that, whatever it names.
+-- The number of the input of an id. Numbers end at 255: a device with as many inputs is refused for
+-- that, whatever it names.
 abbrev pub input_place : List Input → List ℕ → Option ℕ
 input_place inputs id = option_map (min 255) (position (λ i. bytes_eq i.id id) inputs)
 
 -- a choice of what may be routed: null, or an input's id
 abbrev pub choice_in : List Input → Data → Option (Option ℕ)
-choice_in inputs d = if is_null d then Some None else option_map Some (option_and_then (input_place inputs) (as_str d))
+choice_in inputs d =
+    if is_null d then Some None
+    else option_map Some (option_and_then (input_place inputs) (as_str d))
 
 -- what may be routed: null for anything, or a list of choices
 abbrev pub routable_in : List Input → Data → Option Routable
-routable_in inputs d = if is_null d then Some Anything else option_map Only (option_and_then (each_in (choice_in inputs)) (as_array d))
+routable_in inputs d =
+    if is_null d then Some Anything
+    else option_map Only (option_and_then (each_in (choice_in inputs)) (as_array d))
 
 -- a channel's cell: null, or an object with an input's id and a channel's number
 abbrev pub cell_in : List Input → Data → Option Cell
@@ -195,15 +207,21 @@ setup_in d = do
   inputs ← inputs_at d
   targets ← targets_at inputs d
   Some (setup_of
-      (record { rate = rate; base = base; hold = hold; inputs = inputs; outputs = outputs_of targets })
+      (record {
+        rate = rate;
+        base = base;
+        hold = hold;
+        inputs = inputs;
+        outputs = outputs_of targets;
+      })
       (rows_of targets))
 
 -- the text says this device with these base rows
 abbrev pub Says : List ℕ → SetupParts → Type 0
 Says text setup = (document text >>= setup_in) ≡ Some setup
 
--- what a device and its base rows are built to: the first limit that the device breaks; or what of the rows doesn't fit it; or both,
--- as they are
+-- what a device and its base rows are built to: the first limit that the device breaks; or what of
+-- the rows doesn't fit it; or both, as they are
 abbrev pub BuildsSetup : SetupParts → Result SetupParts (Or DeviceJsonFault) → Type 0
 BuildsSetup said (Ok setup) = (said ≡ setup) × IsSetup said
 BuildsSetup said (Err NoMemory) = Unit {0}
@@ -212,13 +230,16 @@ BuildsSetup said (Err (Fault Shape)) = ⊥
 BuildsSetup said (Err (Fault (Device fault))) = IsFirstFault said.device fault
 BuildsSetup said (Err (Fault (Rows fault))) = IsDevice said.device × IsBrokenBy said fault
 
--- What a text is read as. It is no JSON value; or it is one that says no device; or the device that it says breaks a limit, and
--- this is the first; or it is within the limits, and its base rows don't fit it; or the setup is what the text says, and is in order.
--- Want of memory says nothing of the text.
+-- What a text is read as. It is no JSON value; or it is one that says no device; or the device that
+-- it says breaks a limit, and this is the first; or it is within the limits, and its base rows
+-- don't fit it; or the setup is what the text says, and is in order. Want of memory says nothing of
+-- the text.
 abbrev pub ReadsDevice : List ℕ → Result SetupParts (Or DeviceJsonFault) → Type 0
 ReadsDevice text (Ok setup) = Says text setup × IsSetup setup
 ReadsDevice text (Err NoMemory) = Unit {0}
 ReadsDevice text (Err (Fault NotJson)) = document text ≡ None
 ReadsDevice text (Err (Fault Shape)) = (d : Data) × (document text ≡ Some d) × (setup_in d ≡ None)
-ReadsDevice text (Err (Fault (Device fault))) = (setup : SetupParts) × Says text setup × IsFirstFault setup.device fault
-ReadsDevice text (Err (Fault (Rows fault))) = (setup : SetupParts) × Says text setup × IsDevice setup.device × IsBrokenBy setup fault
+ReadsDevice text (Err (Fault (Device fault))) =
+    (setup : SetupParts) × Says text setup × IsFirstFault setup.device fault
+ReadsDevice text (Err (Fault (Rows fault))) =
+    (setup : SetupParts) × Says text setup × IsDevice setup.device × IsBrokenBy setup fault

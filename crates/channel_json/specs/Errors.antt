@@ -6,7 +6,8 @@ use Rattle.serde_json.specs.Written.{compact_text}
 -- a status and a text
 abbrev pub error_data : ℕ → List ℕ → Data
 error_data code text =
-    object (member (codes "code") (number (unsigned code)) (member (codes "debug") null (member (codes "error") (string text) no_members)))
+    object (member (codes "code") (number (unsigned code))
+    (member (codes "debug") null (member (codes "error") (string text) no_members)))
 
 -- its text
 abbrev pub error_text : ℕ → List ℕ → List ℕ

@@ -1,5 +1,8 @@
--- The body of an activation. (AMWA IS-08 v1.0: what is posted to `/map/activations`. The order of the faults is this project's own.)
-use Rattle.std.specs.Prelude.{◌≡◌, ℕ, ◌&&◌, not, nat_lt, Bool, List, length, Option, Some, None, option_map, option_and_then, is_some, Result, Ok, Err, if◌then◌else◌, codes, decimal}
+-- The body of an activation. (AMWA IS-08 v1.0: what is posted to `/map/activations`. The order of
+-- the faults is this project's own.)
+use Rattle.std.specs.Prelude.{◌≡◌, ℕ, ◌&&◌, not, nat_lt, Bool, List, length, Option, Some, None}
+use Rattle.std.specs.Prelude.{option_map, option_and_then, is_some, Result, Ok, Err, if◌then◌else◌}
+use Rattle.std.specs.Prelude.{codes, decimal}
 use Rattle.std.specs.List.{position, list_all, list_any}
 use Rattle.std.specs.Option.{option_or}
 use Rattle.std.specs.Result.{result_ok}
@@ -20,24 +23,30 @@ use Rattle.plain_book.specs.declared.requests.When.{When}
 use Rattle.plain_book.specs.declared.requests.When.TheVariants.{Now, At, After}
 use Rattle.plain_book.specs.declared.requests.Request.{Request}
 use Rattle.plain_book.specs.declared.requests.Request.TheVariants.{Activate}
-use Rattle.channel_json.specs.declared.faults.Place.TheVariants.{Top, Activation, Mode, Time, Action, Output, Cell as CellPlace}
+use Rattle.channel_json.specs.declared.faults.Place.TheVariants.{Top, Activation, Mode, Time}
+use Rattle.channel_json.specs.declared.faults.Place.TheVariants.{Action, Output, Cell as CellPlace}
 use Rattle.channel_json.specs.declared.faults.BodyFault.{BodyFault}
-use Rattle.channel_json.specs.declared.faults.BodyFault.TheVariants.{NotJson, Shape, UnknownOutput, UnknownInput}
+use Rattle.channel_json.specs.declared.faults.BodyFault.TheVariants.{NotJson, Shape, UnknownOutput}
+use Rattle.channel_json.specs.declared.faults.BodyFault.TheVariants.{UnknownInput}
 use Rattle.channel_json.specs.declared.requests.Scheduling.{Scheduling}
-use Rattle.channel_json.specs.declared.requests.Scheduling.TheVariants.{Immediate, Absolute, Relative}
+use Rattle.channel_json.specs.declared.requests.Scheduling.TheVariants.{Immediate, Absolute}
+use Rattle.channel_json.specs.declared.requests.Scheduling.TheVariants.{Relative}
 use Rattle.channel_json.specs.Values.{document}
-use Rattle.channel_json.specs.Fields.{at_most, whole_at, text_at, object_at, is_null_at, found_below}
+use Rattle.channel_json.specs.Fields.{at_most, whole_at, text_at, object_at, is_null_at}
+use Rattle.channel_json.specs.Fields.{found_below}
 use Rattle.channel_json.specs.Cells.{output_id}
 
 -- ---- faults in their order
 
 -- the fault where there is nothing, else what comes of it
-abbrev pub or_fault : {A B : Type 0} → BodyFault → Option A → (A → Result B BodyFault) → Result B BodyFault
+abbrev pub or_fault : {A B : Type 0} → BodyFault → Option A → (A → Result B BodyFault)
+    → Result B BodyFault
 or_fault fault None go = Err fault
 or_fault fault (Some a) go = go a
 
 -- the first fault, or what comes of the value
-abbrev pub and_then : {A B : Type 0} → Result A BodyFault → (A → Result B BodyFault) → Result B BodyFault
+abbrev pub and_then : {A B : Type 0} → Result A BodyFault → (A → Result B BodyFault)
+    → Result B BodyFault
 and_then (Ok a) go = go a
 and_then (Err fault) go = Err fault
 
@@ -54,9 +63,11 @@ Answers meant (Err NoMemory) = Unit {0}
 
 -- ---- numbers in texts
 
--- the number whose decimal text, without leading zeros, this is, where it isn't above a greatest one
+-- the number whose decimal text this is, without leading zeros, where it isn't above a greatest one
 abbrev pub number_in : ℕ → List ℕ → Option ℕ
-number_in most text = if bytes_eq text (decimal (digits_value 10 text)) then at_most most (digits_value 10 text) else None
+number_in most text =
+    if bytes_eq text (decimal (digits_value 10 text)) then at_most most (digits_value 10 text)
+    else None
 
 -- a channel's number: one to three digits, at most 255
 abbrev pub channel_in : List ℕ → Option ℕ
@@ -69,12 +80,15 @@ are_digits text = nat_lt 0 (length text) && list_all (λ b. nat_lt (digit_value 
 -- the time that these parts write, where each number is in its range
 abbrev pub time_of_parts : List ℕ → List ℕ → Option TaiTime
 time_of_parts secs nanos =
-    if are_digits secs && (are_digits nanos && (nat_lt (digits_value 10 secs) secs_limit && nat_lt (digits_value 10 nanos) second))
+    if are_digits secs &&
+    (are_digits nanos &&
+    (nat_lt (digits_value 10 secs) secs_limit && nat_lt (digits_value 10 nanos) second))
     then Some (record { secs = digits_value 10 secs; nanos = digits_value 10 nanos }) else None
 
 -- the time of a text `seconds:nanoseconds`, where it is one
 unfoldable pub time_in : List ℕ → Option TaiTime
-time_in text = if list_any is_colon text then time_of_parts (secs_part text) (nanos_part text) else None
+time_in text =
+    if list_any is_colon text then time_of_parts (secs_part text) (nanos_part text) else None
 
 -- ---- when
 
@@ -94,7 +108,7 @@ scheduling_at d = option_and_then scheduling_in (text_at (codes "mode") d)
 abbrev pub time_at : Data → Option TaiTime
 time_at d = option_and_then time_in (text_at (codes "requested_time") d)
 
--- when an activation is to count; what is asked for as the time of an immediate one is not looked at
+-- when an activation is to count; for an immediate one the time that is asked for isn't looked at
 abbrev pub when_at : Scheduling → Data → Option When
 when_at Immediate d = Some Now
 when_at Absolute d = option_map At (time_at d)
@@ -143,12 +157,14 @@ fault_of (Err fault) = Some fault
 
 -- of a channel's key and its cell
 abbrev pub cell_fault : DeviceParts → List ℕ → Data → Option BodyFault
-cell_fault device key d = fault_of (or_fault (Shape CellPlace) (channel_in key) (λ channel. cell_in device d))
+cell_fault device key d =
+    fault_of (or_fault (Shape CellPlace) (channel_in key) (λ channel. cell_in device d))
 
 -- the first fault of the channels of an output
 abbrev pub cells_fault : DeviceParts → Members → Option BodyFault
 cells_fault device no_members = None
-cells_fault device (member key d members) = option_or (cell_fault device key d) (cells_fault device members)
+cells_fault device (member key d members) =
+    option_or (cell_fault device key d) (cells_fault device members)
 
 -- the fault of what stands under a known output's id
 abbrev pub changes_fault : DeviceParts → Option Members → Option BodyFault
@@ -157,12 +173,15 @@ changes_fault device (Some members) = cells_fault device members
 
 -- of an output's id and what stands under it
 abbrev pub output_fault : DeviceParts → List ℕ → Data → Option BodyFault
-output_fault device id d = if is_some (output_number device id) then changes_fault device (as_object d) else Some UnknownOutput
+output_fault device id d =
+    if is_some (output_number device id) then changes_fault device (as_object d)
+    else Some UnknownOutput
 
 -- the first fault of the outputs
 abbrev pub outputs_fault : DeviceParts → Members → Option BodyFault
 outputs_fault device no_members = None
-outputs_fault device (member id d members) = option_or (output_fault device id d) (outputs_fault device members)
+outputs_fault device (member id d members) =
+    option_or (output_fault device id d) (outputs_fault device members)
 
 -- the first fault of an action
 abbrev pub action_fault : DeviceParts → Data → Option BodyFault
@@ -182,7 +201,9 @@ changes_in device d = found_below (change_at device d) 256
 
 -- what is changed of the output of a number, where its id is a key
 abbrev pub output_at : DeviceParts → Data → ℕ → Option OutputChangeParts
-output_at device d output = option_map (λ cells. output_change output (changes_in device cells)) (get (output_id device output) d)
+output_at device d output =
+    option_map (λ cells. output_change output (changes_in device cells))
+    (get (output_id device output) d)
 
 -- what is changed, in the order of the device's outputs
 abbrev pub action_in : DeviceParts → Data → List OutputChangeParts

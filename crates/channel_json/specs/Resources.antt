@@ -1,7 +1,9 @@
 -- The fixed resources as JSON, by the names that AMWA IS-08 v1.0 gives them.
-use Rattle.std.specs.Prelude.{ℕ, ◌<◌, List, [], ◌∷◌, ◌++◌, length, map, Option, Some, None, slice_get, codes}
+use Rattle.std.specs.Prelude.{ℕ, ◌<◌, List, [], ◌∷◌, ◌++◌, length, map, Option, Some, None}
+use Rattle.std.specs.Prelude.{slice_get, codes}
 use Rattle.std.specs.Option.{option_map_or}
-use Rattle.serde_json.specs.Data.{Data, null, boolean, number, unsigned, string, object, no_members, member}
+use Rattle.serde_json.specs.Data.{Data, null, boolean, number, unsigned, string, object, no_members}
+use Rattle.serde_json.specs.Data.{member}
 use Rattle.serde_json.specs.Written.{compact_text}
 use Rattle.io_caps.specs.declared.device.DeviceParts.{DeviceParts}
 use Rattle.io_caps.specs.declared.port.Input.{Input}
@@ -11,7 +13,16 @@ use Rattle.io_caps.specs.declared.port.Parent.TheVariants.{Nobody, Source, Recei
 use Rattle.io_caps.specs.declared.port.Routable.{Routable}
 use Rattle.io_caps.specs.declared.port.Routable.TheVariants.{All as Anything, Only}
 use Rattle.channel_json.specs.declared.resource.Resource.{Resource}
-use Rattle.channel_json.specs.declared.resource.Resource.TheVariants.{Slash, Nmos, Mapping, Version, Inputs, Outputs, Input as OneInput, Output as OneOutput, InputProperties, OutputProperties, Parent as ParentOf, InputChannels, OutputChannels, InputCaps, SourceId, OutputCaps, Map, Io}
+use Rattle.channel_json.specs.declared.resource.Resource.TheVariants.{Slash, Nmos, Mapping, Version}
+use Rattle.channel_json.specs.declared.resource.Resource.TheVariants.{Inputs, Outputs}
+use Rattle.channel_json.specs.declared.resource.Resource.TheVariants.{Input as OneInput}
+use Rattle.channel_json.specs.declared.resource.Resource.TheVariants.{Output as OneOutput}
+use Rattle.channel_json.specs.declared.resource.Resource.TheVariants.{InputProperties}
+use Rattle.channel_json.specs.declared.resource.Resource.TheVariants.{OutputProperties}
+use Rattle.channel_json.specs.declared.resource.Resource.TheVariants.{Parent as ParentOf}
+use Rattle.channel_json.specs.declared.resource.Resource.TheVariants.{InputChannels, OutputChannels}
+use Rattle.channel_json.specs.declared.resource.Resource.TheVariants.{InputCaps, SourceId}
+use Rattle.channel_json.specs.declared.resource.Resource.TheVariants.{OutputCaps, Map, Io}
 use Rattle.channel_json.specs.Values.{array_of, object_of, text_data}
 use Rattle.channel_json.specs.Uuids.{uuid_text}
 use Rattle.channel_json.specs.Cells.{input_id}
@@ -21,7 +32,8 @@ use Rattle.channel_json.specs.Cells.{input_id}
 -- a name and a description
 abbrev pub properties_data : List ℕ → List ℕ → Data
 properties_data name description =
-    object (member (codes "description") (text_data description) (member (codes "name") (text_data name) no_members))
+    object (member (codes "description") (text_data description)
+    (member (codes "name") (text_data name) no_members))
 
 -- the id of a source or a receiver, and which of the two it is
 abbrev pub fed_data : Data → Data → Data
@@ -44,7 +56,8 @@ channels_data labels = array_of (map label_data labels)
 -- how the channels of an input are routed together
 abbrev pub input_caps_data : Input → Data
 input_caps_data i =
-    object (member (codes "block_size") (number (unsigned i.block_size)) (member (codes "reordering") (boolean i.reordering) no_members))
+    object (member (codes "block_size") (number (unsigned i.block_size))
+    (member (codes "reordering") (boolean i.reordering) no_members))
 
 -- the source that an output feeds: null where there is none
 abbrev pub source_data : Option ℕ → Data
@@ -63,7 +76,8 @@ routable_data device (Only choices) = array_of (map (choice_data device) choices
 
 -- what may be routed to an output
 abbrev pub output_caps_data : DeviceParts → Output → Data
-output_caps_data device o = object (member (codes "routable_inputs") (routable_data device o.routable) no_members)
+output_caps_data device o =
+    object (member (codes "routable_inputs") (routable_data device o.routable) no_members)
 
 -- ---- all of an input or an output, each part as in its own resource
 
@@ -90,7 +104,8 @@ abbrev pub io_data : DeviceParts → Data
 io_data device =
     object
     (member (codes "inputs") (object_of (map (λ i. (i.id, input_data i)) device.inputs))
-    (member (codes "outputs") (object_of (map (λ o. (o.id, output_data device o)) device.outputs)) no_members))
+    (member (codes "outputs")
+    (object_of (map (λ o. (o.id, output_data device o)) device.outputs)) no_members))
 
 -- ---- resources
 
@@ -115,13 +130,18 @@ abbrev pub resource_data : DeviceParts → Resource → Data
 resource_data device Slash = names_data (codes "x-nmos" ∷ [])
 resource_data device Nmos = names_data (codes "channelmapping" ∷ [])
 resource_data device Mapping = names_data (codes "v1.0" ∷ [])
-resource_data device Version = names_data (codes "inputs" ∷ codes "outputs" ∷ codes "map" ∷ codes "io" ∷ [])
+resource_data device Version =
+    names_data (codes "inputs" ∷ codes "outputs" ∷ codes "map" ∷ codes "io" ∷ [])
 resource_data device Inputs = array_of (map (λ i. name_data i.id) device.inputs)
 resource_data device Outputs = array_of (map (λ o. name_data o.id) device.outputs)
-resource_data device OneInput = names_data (codes "properties" ∷ codes "parent" ∷ codes "channels" ∷ codes "caps" ∷ [])
-resource_data device OneOutput = names_data (codes "properties" ∷ codes "sourceid" ∷ codes "channels" ∷ codes "caps" ∷ [])
-resource_data device (InputProperties input) = of_input (λ i. properties_data i.name i.description) device input
-resource_data device (OutputProperties output) = of_output (λ o. properties_data o.name o.description) device output
+resource_data device OneInput =
+    names_data (codes "properties" ∷ codes "parent" ∷ codes "channels" ∷ codes "caps" ∷ [])
+resource_data device OneOutput =
+    names_data (codes "properties" ∷ codes "sourceid" ∷ codes "channels" ∷ codes "caps" ∷ [])
+resource_data device (InputProperties input) =
+    of_input (λ i. properties_data i.name i.description) device input
+resource_data device (OutputProperties output) =
+    of_output (λ o. properties_data o.name o.description) device output
 resource_data device (ParentOf input) = of_input (λ i. parent_data i.parent) device input
 resource_data device (InputChannels input) = of_input (λ i. channels_data i.labels) device input
 resource_data device (OutputChannels output) = of_output (λ o. channels_data o.labels) device output

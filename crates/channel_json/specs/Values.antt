@@ -5,8 +5,9 @@ use Rattle.serde_json.specs.Data.{Data, string, array, object, Members, no_membe
 use Rattle.serde_json.specs.Read.{read}
 use Rattle.serde_json.specs.View.{items_of}
 
--- The value that a text says, or none: the text is UTF-8 and JSON, with arrays and objects nested at most 127 deep. Of a doubled
--- key the last value stays. A number with a point, an exponent, or the value -0, and one past 64 bits, is no whole number.
+-- The value that a text says, or none: the text is UTF-8 and JSON, with arrays and objects nested
+-- at most 127 deep. Of a doubled key the last value stays. A number with a point, an exponent, or
+-- the value -0, and one past 64 bits, is no whole number.
 abbrev pub document : List ℕ → Option Data
 document text = if is_utf8 text then read text else None
 

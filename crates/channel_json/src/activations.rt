@@ -4,7 +4,11 @@ ghost use Rattle.std.specs.Prelude.{◌≡◌, ◌++◌, IfOk, OnOk, OnErr};
 ghost use Rattle.io_caps.specs.Rate.{IsRate};
 ghost use Rattle.serde_json.specs.Data.{null, string};
 ghost use Rattle.serde_json.specs.View.{view};
-ghost use Rattle.channel_json.specs.Activations.{time_data, start_data, mode_text, requested_data, activation_data, last_data, joined_data, moment_data, item_data, accepted_data, pending_data, active_data, accepted_text, item_text, pending_text, active_text};
+ghost use Rattle.channel_json.specs.Activations.{time_data, start_data, mode_text, requested_data};
+ghost use Rattle.channel_json.specs.Activations.{activation_data, last_data, joined_data};
+ghost use Rattle.channel_json.specs.Activations.{moment_data, item_data, accepted_data};
+ghost use Rattle.channel_json.specs.Activations.{pending_data, active_data, accepted_text};
+ghost use Rattle.channel_json.specs.Activations.{item_text, pending_text, active_text};
 
 use crate::cells::{action_value, map_value};
 use crate::values::{append, shown};

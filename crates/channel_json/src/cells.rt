@@ -3,7 +3,8 @@
 ghost use Rattle.std.specs.Prelude.{◌≡◌, IfOk, OnOk, map};
 ghost use Rattle.serde_json.specs.Data.{no_members, put};
 ghost use Rattle.serde_json.specs.View.{view, members_view};
-ghost use Rattle.channel_json.specs.Cells.{action_data, cell_data, changes_data, map_data, row_data, row_of, row_member};
+ghost use Rattle.channel_json.specs.Cells.{action_data, cell_data, changes_data, map_data};
+ghost use Rattle.channel_json.specs.Cells.{row_data, row_of, row_member};
 ghost use Rattle.channel_json.specs.Values.{with_members};
 ghost use Rattle.std.specs.List.{range_with_len};
 ghost use Rattle.std.specs.Prelude.{length};

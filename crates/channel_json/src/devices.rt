@@ -9,7 +9,11 @@ ghost use Rattle.io_caps.specs.declared.port.Parent.TheVariants.{Nobody};
 ghost use Rattle.io_caps.specs.declared.port.Routable.TheVariants.{All as Anything};
 ghost use Rattle.map_entry.specs.declared.cell.Cell.TheVariants.{Unrouted};
 ghost use Rattle.map_entry.specs.Setup.{setup_of};
-ghost use Rattle.channel_json.specs.Devices.{BuildsSetup, ReadsDevice, cell_in, choice_in, input_in, input_place, inputs_at, label_in, labels_at, outputs_of, parent_in, rate_in, routable_in, row_in, rows_of, setup_in, source_in, target_in, targets_at, uuid_in, width_at};
+ghost use Rattle.channel_json.specs.Devices.{BuildsSetup, ReadsDevice, cell_in, choice_in};
+ghost use Rattle.channel_json.specs.Devices.{input_in, input_place, inputs_at, label_in, labels_at};
+ghost use Rattle.channel_json.specs.Devices.{outputs_of, parent_in, rate_in, routable_in, row_in};
+ghost use Rattle.channel_json.specs.Devices.{rows_of, setup_in, source_in, target_in, targets_at};
+ghost use Rattle.channel_json.specs.Devices.{uuid_in, width_at};
 
 use crate::DeviceJsonFault;
 use crate::fields::{

@@ -5,7 +5,8 @@ ghost use Rattle.exact_text.specs.Readings.{Gives};
 ghost use Rattle.serde_json.specs.Data.{Data};
 ghost use Rattle.serde_json.specs.Find.{as_str, as_bool, get};
 ghost use Rattle.serde_json.specs.View.{view, items_view};
-ghost use Rattle.channel_json.specs.Fields.{each_in, if_there, is_null, is_null_at, list_at, object_at, text_at, whole_at, whole_in};
+ghost use Rattle.channel_json.specs.Fields.{each_in, if_there, is_null, is_null_at, list_at};
+ghost use Rattle.channel_json.specs.Fields.{object_at, text_at, whole_at, whole_in};
 ghost use Rattle.channel_json.specs.Values.{document};
 
 use exact_text::Misread;

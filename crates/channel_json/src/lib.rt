@@ -23,3 +23,6 @@ pub use ids::{input_number, output_number};
 pub use requests::request_of;
 pub use resource::Resource;
 pub use resources::resource_body;
+
+#[cfg(test)]
+mod tests;

@@ -4,7 +4,12 @@ ghost use Rattle.std.specs.Prelude.{◌≡◌, ◌<◌, ◌-◌, ◌++◌, IfOk,
 ghost use Rattle.std.specs.Option.{option_to_list};
 ghost use Rattle.serde_json.specs.View.{view, members_view};
 ghost use Rattle.map_entry.specs.Action.{output_change};
-ghost use Rattle.channel_json.specs.Requests.{Answers, action_fault, action_in, activate_in, cell_fault, cell_in, cells_fault, change_at, changes_in, channel_in, output_at, output_fault, outputs_fault, request_by, request_in, routed_in, scheduling_at, scheduling_in, time_at, time_in, when_at, when_in};
+ghost use Rattle.channel_json.specs.Requests.{Answers, action_fault, action_in, activate_in};
+ghost use Rattle.channel_json.specs.Requests.{cell_fault, cell_in, cells_fault, change_at};
+ghost use Rattle.channel_json.specs.Requests.{changes_in, channel_in, output_at, output_fault};
+ghost use Rattle.channel_json.specs.Requests.{outputs_fault, request_by, request_in, routed_in};
+ghost use Rattle.channel_json.specs.Requests.{scheduling_at, scheduling_in, time_at, time_in};
+ghost use Rattle.channel_json.specs.Requests.{when_at, when_in};
 
 use crate::fields::{document, is_null_at, object_at, text_at, whole_at};
 use crate::ids::{input_number, output_number};

@@ -3,7 +3,11 @@
 ghost use Rattle.std.specs.Prelude.{◌≡◌, ◌++◌, IfOk, OnOk, OnErr, map};
 ghost use Rattle.serde_json.specs.Data.{null, string};
 ghost use Rattle.serde_json.specs.View.{view};
-ghost use Rattle.channel_json.specs.Resources.{properties_data, parent_data, fed_data, channels_data, label_data, input_caps_data, source_data, choice_data, routable_data, output_caps_data, input_data, output_data, io_data, name_data, IsThere, resource_data, resource_text};
+ghost use Rattle.channel_json.specs.Resources.{properties_data, parent_data, fed_data};
+ghost use Rattle.channel_json.specs.Resources.{channels_data, label_data, input_caps_data};
+ghost use Rattle.channel_json.specs.Resources.{source_data, choice_data, routable_data};
+ghost use Rattle.channel_json.specs.Resources.{output_caps_data, input_data, output_data, io_data};
+ghost use Rattle.channel_json.specs.Resources.{name_data, IsThere, resource_data, resource_text};
 ghost use Rattle.channel_json.specs.Uuids.{uuid_text};
 ghost use Rattle.channel_json.specs.Values.{array_of, object_of};
 

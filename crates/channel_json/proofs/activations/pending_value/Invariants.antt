@@ -7,5 +7,6 @@ use Rattle.channel_json.proofs.activations.pending_value.Given as goal
 
 abbrev pub invariant-loop-item : goal.invariant-loop-item
 invariant-loop-item l =
-    with_members (map (pending_member l.device) (drop l.item-index l.items)) (members_view l.map.entries)
+    with_members (map (pending_member l.device) (drop l.item-index l.items))
+    (members_view l.map.entries)
     ≡ with_members (map (pending_member l.device) l.items) no_members

@@ -7,5 +7,6 @@ use Rattle.channel_json.proofs.cells.action_value.Given as goal
 
 abbrev pub invariant-loop-change : goal.invariant-loop-change
 invariant-loop-change l =
-    with_members (map (output_member l.device) (drop l.change-index l.action)) (members_view l.map.entries)
+    with_members (map (output_member l.device) (drop l.change-index l.action))
+    (members_view l.map.entries)
     ≡ with_members (map (output_member l.device) l.action) no_members

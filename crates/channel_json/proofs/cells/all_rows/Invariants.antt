@@ -7,4 +7,6 @@ use Rattle.channel_json.specs.Values.{with_members}
 use Rattle.channel_json.proofs.cells.all_rows.Given as goal
 
 abbrev pub invariant-loop-output : goal.invariant-loop-output
-invariant-loop-output l = members_view l.map.entries ≡ with_members (map (row_member l.device l.rows) (range_with_len 0 l.output)) no_members
+invariant-loop-output l =
+    members_view l.map.entries
+    ≡ with_members (map (row_member l.device l.rows) (range_with_len 0 l.output)) no_members

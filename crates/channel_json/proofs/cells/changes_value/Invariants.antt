@@ -7,5 +7,6 @@ use Rattle.channel_json.proofs.cells.changes_value.Given as goal
 
 abbrev pub invariant-loop-change : goal.invariant-loop-change
 invariant-loop-change l =
-    with_members (map (change_member l.device) (drop l.change-index l.changes)) (members_view l.map.entries)
+    with_members (map (change_member l.device) (drop l.change-index l.changes))
+    (members_view l.map.entries)
     ≡ with_members (map (change_member l.device) l.changes) no_members

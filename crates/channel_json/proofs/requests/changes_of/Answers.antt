@@ -11,4 +11,5 @@ pub loop-channel-preserved : goal.loop-channel-preserved
 loop-channel-preserved c =
     let found = change_at c.args.device.now (view c.args.cells.now) in
     let more = found_more found c.loop-channel.channel in
-    c.in_ok-push_change.ensures ∙ rw (c.loop-channel.invariant, c.change_at-change.ensures) (sym more)
+    c.in_ok-push_change.ensures
+    ∙ rw (c.loop-channel.invariant, c.change_at-change.ensures) (sym more)

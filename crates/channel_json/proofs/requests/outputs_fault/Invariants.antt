@@ -7,4 +7,5 @@ abbrev pub invariant-loop-id : goal.invariant-loop-id
 invariant-loop-id l =
     (goal.iterator-loop-id).can_next l.id-iterator
     × (goal.iterator-loop-id).is_finite l.id-iterator
-    × (outputs_fault l.device (members_view l.outputs.entries) ≡ outputs_fault l.device (members_view l.id-iterator))
+    × (outputs_fault l.device (members_view l.outputs.entries)
+    ≡ outputs_fault l.device (members_view l.id-iterator))

@@ -7,5 +7,6 @@ use Rattle.channel_json.proofs.resources.inputs_value.Given as goal
 
 abbrev pub invariant-loop-input : goal.invariant-loop-input
 invariant-loop-input l =
-    with_members (map (λ i. (i.id, input_data i)) (drop l.input-index l.device.inputs)) (members_view l.map.entries)
+    with_members (map (λ i. (i.id, input_data i)) (drop l.input-index l.device.inputs))
+    (members_view l.map.entries)
     ≡ with_members (map (λ i. (i.id, input_data i)) l.device.inputs) no_members

@@ -3,4 +3,6 @@ use Rattle.uuid.specs.Text.{hyphenated_text, lower}
 use Rattle.channel_json.proofs.uuids.text_of.Goals as goal
 
 pub returns : goal.returns
-returns c = c.encode_lower.ensures.text ∙ ap (hyphenated_text lower) (c.hyphenated.ensures ∙ c.from_u128.ensures)
+returns c =
+    c.encode_lower.ensures.text
+    ∙ ap (hyphenated_text lower) (c.hyphenated.ensures ∙ c.from_u128.ensures)
