@@ -1,5 +1,8 @@
 -- What matchit finds is the row that takes the path.
-use Rattle.std.proofs.Common.{◌≡◌, ℕ, zero, suc, ◌+◌, ◌-◌, ◌<◌, ◌≤◌, ◌⊎◌, Bool, true, false, cond, ◌&&◌, ◌||◌, ◌==◌, List, [], ◌∷◌, Option, Some, None, length, drop, refl, sym, ap, ◌∙◌, subst, inl, inr, arith, true≢false, ◌++◌, take, take-append-drop, length-append}
+use Rattle.std.proofs.Common.{◌≡◌, ℕ, zero, suc, ◌+◌, ◌-◌, ◌<◌, ◌≤◌, ◌⊎◌, Bool, true, false, cond}
+use Rattle.std.proofs.Common.{◌&&◌, ◌||◌, ◌==◌, List, [], ◌∷◌, Option, Some, None, length, drop}
+use Rattle.std.proofs.Common.{refl, sym, ap, ◌∙◌, subst, inl, inr, arith, true≢false, ◌++◌, take}
+use Rattle.std.proofs.Common.{take-append-drop, length-append}
 use Rattle.matchit.proofs.ParamLemmas.{drop-length}
 use Rattle.std.proofs.Math.Seq.{drop-append_seam}
 use Rattle.std.proofs.lemmas.Slice.Eq.{bytes_eq-Decides}
@@ -7,7 +10,8 @@ use Rattle.std.specs.Prelude.{nat_lt}
 use Rattle.std.specs.List.{list_all}
 use Rattle.std.proofs.lemmas.Bool.Decides.{nat_tests}
 use Rattle.matchit.specs.Rows.{RowsOf}
-use Rattle.matchit.specs.Seek.{seek, param_step, own, step, or_else, segment, has_slash, longest_suffix, longest_from, with_suffix, cuts}
+use Rattle.matchit.specs.Seek.{seek, param_step, own, step, or_else, segment, has_slash}
+use Rattle.matchit.specs.Seek.{longest_suffix, longest_from, with_suffix, cuts}
 use Rattle.api_routes.specs.Match.{from_slash, is_empty, begins, takes, hit}
 
 -- ---- rows that are looked up so
@@ -22,7 +26,8 @@ fits (x ∷ p) (y ∷ q) = cond (x == y) (fits p q) (nat_lt x 256 && nat_lt y 25
 -- a parameter stands for a whole part, and there is no catch-all
 abbrev pub is_shaped : List ℕ → Bool
 is_shaped [] = true
-is_shaped (x ∷ p) = nat_lt x 257 && (cond (x == 256) (is_empty p || begins 47 p) true && is_shaped p)
+is_shaped (x ∷ p) =
+    nat_lt x 257 && (cond (x == 256) (is_empty p || begins 47 p) true && is_shaped p)
 
 -- the pattern is that of a row
 abbrev pub IsIn : {K : Type 0} → List ℕ → RowsOf K → Type 0
@@ -66,11 +71,18 @@ pub record Split (path : List ℕ) : Type 0 where
   pub whole : path ≡ front ++ 47 ∷ rest
   pub seg : segment path ≡ front ++ 47 ∷ []
 
-split_at : (b : ℕ) (path : List ℕ) (same : Bool) → (b == 47) ≡ same → (has_slash path ≡ true → Split path)
+split_at : (b : ℕ) (path : List ℕ) (same : Bool) → (b == 47) ≡ same
+    → (has_slash path ≡ true → Split path)
     → cond same true (has_slash path) ≡ true → Split (b ∷ path)
 split_at b path true is go h =
     let byte : b ≡ 47 = is_byte b 47 true is refl in
-    record { front = []; rest = path; from = rw byte refl; whole = rw byte refl; seg = rw byte refl }
+    record {
+      front = [];
+      rest = path;
+      from = rw byte refl;
+      whole = rw byte refl;
+      seg = rw byte refl;
+    }
 split_at b path false is go h =
     let more = go h in
     record {
@@ -95,12 +107,14 @@ slash_within [] y = refl
 slash_within (b ∷ x) y = or_true (b == 47) _ (slash_within x y)
 
 no_split_at : (b : ℕ) (path : List ℕ) (same : Bool) → (b == 47) ≡ same
-    → (has_slash path ≡ false → (segment path ≡ path) × (from_slash path ≡ [])) → cond same true (has_slash path) ≡ false
+    → (has_slash path ≡ false → (segment path ≡ path) × (from_slash path ≡ []))
+    → cond same true (has_slash path) ≡ false
     → (segment (b ∷ path) ≡ b ∷ path) × (from_slash (b ∷ path) ≡ [])
 no_split_at b path true is go h = absurd (true≢false h)
 no_split_at b path false is go h = let more = go h in (rw (is, more.0), rw (is, more.1))
 
-pub no_split : (path : List ℕ) → has_slash path ≡ false → (segment path ≡ path) × (from_slash path ≡ [])
+pub no_split : (path : List ℕ) → has_slash path ≡ false
+    → (segment path ≡ path) × (from_slash path ≡ [])
 no_split [] h = (refl, refl)
 no_split (b ∷ path) h = no_split_at b path (b == 47) refl (no_split path) h
 
@@ -126,10 +140,12 @@ cuts_none path h = not_true _ (λ cut.
     let at = drop (length path - 1) path in
     let last : 47 ∷ [] ≡ at = (bytes_eq-Decides (47 ∷ []) at).0 (and_parts _ _ cut).1 in
     let whole : path ≡ take (length path - 1) path ++ 47 ∷ [] =
-    sym (take-append-drop (length path - 1) path) ∙ ap (λ (x : List ℕ). take (length path - 1) path ++ x) (sym last) in
+    sym (take-append-drop (length path - 1) path)
+    ∙ ap (λ (x : List ℕ). take (length path - 1) path ++ x) (sym last) in
     true≢false (sym (slash_within (take (length path - 1) path) []) ∙ ap has_slash (sym whole) ∙ h))
 
-bytes_behind : (x y : List ℕ) → list_all (λ b. nat_lt b 256) (x ++ y) ≡ true → list_all (λ b. nat_lt b 256) y ≡ true
+bytes_behind : (x y : List ℕ) → list_all (λ b. nat_lt b 256) (x ++ y) ≡ true
+    → list_all (λ b. nat_lt b 256) y ≡ true
 bytes_behind [] y h = h
 bytes_behind (b ∷ x) y h = bytes_behind x y (and_parts _ _ h).1
 
@@ -163,7 +179,8 @@ tail_is (y ∷ u) h = sym (is_byte 47 y _ refl h)
 
 tail_of : (y : ℕ) (u : List ℕ) → y ≡ 256 → is_shaped (y ∷ u) ≡ true → Tail u
 tail_of y u token h = let g : is_shaped (256 ∷ u) ≡ true =
-    subst (λ (x : ℕ). is_shaped (x ∷ u) ≡ true) token h in tail_is u (and_parts (is_empty u || begins 47 u) (is_shaped u) g).0
+    subst (λ (x : ℕ). is_shaped (x ∷ u) ≡ true) token h in
+    tail_is u (and_parts (is_empty u || begins 47 u) (is_shaped u) g).0
 
 fits_inside : (b : ℕ) (p q : List ℕ) → fits (b ∷ p) (b ∷ q) ≡ true → fits p q ≡ true
 fits_inside b p q h = let same : (b == b) ≡ true = grind (arith, nat_tests) in rw same at h
@@ -188,9 +205,15 @@ module _ {K : Type 0} where
   unfolding seek
   seek_none skip [] = refl
   seek_none (suc skip) (b ∷ path) = seek_none skip path
-  seek_none zero (b ∷ path) = rw (seek_none 0 path, nothing (b ∷ path), seek_none ((param_step {K = K} [] (b ∷ path)).0 - 1) path)
+  seek_none zero (b ∷ path) =
+      rw (
+        seek_none 0 path,
+        nothing (b ∷ path),
+        seek_none ((param_step {K = K} [] (b ∷ path)).0 - 1) path,
+      )
 
-  pub seek_skip : (skip : ℕ) (rs : RowsOf K) (path : List ℕ) → seek skip rs path ≡ seek 0 rs (drop skip path)
+  pub seek_skip : (skip : ℕ) (rs : RowsOf K) (path : List ℕ)
+      → seek skip rs path ≡ seek 0 rs (drop skip path)
   unfolding seek
   seek_skip zero rs path = refl
   seek_skip (suc skip) rs [] = refl
@@ -221,7 +244,8 @@ module _ {K : Type 0} where
       let other : (x == token) ≡ false = grind (arith, nat_tests, bytes.0) in
       rw other (no_step token rs h bytes.1)
 
-  pub hit_byte : (b : ℕ) (path : List ℕ) (rs : RowsOf K) → Bytes rs → hit rs (b ∷ path) ≡ hit (step b rs) path
+  pub hit_byte : (b : ℕ) (path : List ℕ) (rs : RowsOf K) → Bytes rs
+      → hit rs (b ∷ path) ≡ hit (step b rs) path
   hit_byte b path [] bytes = refl
   hit_byte b path (([], key) ∷ rs) bytes = hit_byte b path rs bytes
   hit_byte b path ((x ∷ t, key) ∷ rs) bytes =
@@ -229,7 +253,8 @@ module _ {K : Type 0} where
       rw byte (go (x == b) (hit_byte b path rs bytes.1))
     where
       go : (same : Bool) → hit rs (b ∷ path) ≡ hit (step b rs) path
-          → cond (same && takes t path) (Some key) (hit rs (b ∷ path)) ≡ hit (cond same ((t, key) ∷ step b rs) (step b rs)) path
+          → cond (same && takes t path) (Some key) (hit rs (b ∷ path))
+          ≡ hit (cond same ((t, key) ∷ step b rs) (step b rs)) path
       go true h = ap (λ o. cond (takes t path) (Some key) o) h
       go false h = h
 
@@ -271,10 +296,12 @@ module _ {K : Type 0} where
       → hit rs (b ∷ path) ≡ hit (step 256 rs) (from_slash path)
   hit_part b path [] part params = refl
   hit_part b path (([], key) ∷ rs) part params = absurd params
-  hit_part b path ((x ∷ t, key) ∷ rs) part params = rw (params.0, part, hit_part b path rs part params.2)
+  hit_part b path ((x ∷ t, key) ∷ rs) part params =
+      rw (params.0, part, hit_part b path rs part params.2)
 
   -- what stays of the rows at the slash
-  pub hit_suffix : (rest : List ℕ) (rs : RowsOf K) → Tails rs → hit rs (47 ∷ rest) ≡ hit (with_suffix (47 ∷ []) rs) (47 ∷ rest)
+  pub hit_suffix : (rest : List ℕ) (rs : RowsOf K) → Tails rs
+      → hit rs (47 ∷ rest) ≡ hit (with_suffix (47 ∷ []) rs) (47 ∷ rest)
   hit_suffix rest [] tails = refl
   hit_suffix rest (([], key) ∷ rs) tails = hit_suffix rest rs tails.1
   hit_suffix rest ((y ∷ t, key) ∷ rs) tails = rw (tails.0, hit_suffix rest rs tails.1)
@@ -286,7 +313,8 @@ module _ {K : Type 0} where
   has_tail (([], key) ∷ rs) = has_tail rs
   has_tail ((y ∷ t, key) ∷ rs) = true
 
-  pub longest_stays : (seg : List ℕ) (rs : RowsOf K) → Tails rs → longest_from seg (47 ∷ []) rs ≡ 47 ∷ []
+  pub longest_stays : (seg : List ℕ) (rs : RowsOf K) → Tails rs
+      → longest_from seg (47 ∷ []) rs ≡ 47 ∷ []
   longest_stays seg [] tails = refl
   longest_stays seg (([], key) ∷ rs) tails = longest_stays seg rs tails.1
   longest_stays seg ((y ∷ t, key) ∷ rs) tails = rw tails.0 (longest_stays seg rs tails.1)
@@ -297,13 +325,16 @@ module _ {K : Type 0} where
   longest_cut seg (([], key) ∷ rs) cut tails = longest_cut seg rs cut tails.1
   longest_cut seg ((y ∷ t, key) ∷ rs) cut tails = rw (tails.0, cut) (longest_stays seg rs tails.1)
 
-  pub longest_none : (seg : List ℕ) (rs : RowsOf K) → cuts seg (47 ∷ []) ≡ false → Tails rs → longest_from seg [] rs ≡ []
+  pub longest_none : (seg : List ℕ) (rs : RowsOf K) → cuts seg (47 ∷ []) ≡ false → Tails rs
+      → longest_from seg [] rs ≡ []
   longest_none seg [] cut tails = refl
   longest_none seg (([], key) ∷ rs) cut tails = longest_none seg rs cut tails.1
-  longest_none seg ((y ∷ t, key) ∷ rs) cut tails = rw (tails.0, cut) (longest_none seg rs cut tails.1)
+  longest_none seg ((y ∷ t, key) ∷ rs) cut tails =
+      rw (tails.0, cut) (longest_none seg rs cut tails.1)
 
   -- with no tail nothing goes on at a slash
-  pub hit_no_tail : (rest : List ℕ) (rs : RowsOf K) → has_tail rs ≡ false → hit rs (47 ∷ rest) ≡ None
+  pub hit_no_tail : (rest : List ℕ) (rs : RowsOf K) → has_tail rs ≡ false
+      → hit rs (47 ∷ rest) ≡ None
   hit_no_tail rest [] h = refl
   hit_no_tail rest (([], key) ∷ rs) h = hit_no_tail rest rs h
   hit_no_tail rest ((y ∷ t, key) ∷ rs) h = absurd (true≢false h)
@@ -313,7 +344,8 @@ module _ {K : Type 0} where
   in_step_at : (b x : ℕ) (t u : List ℕ) (key : K) (rs : RowsOf K) (same : Bool) → (x == b) ≡ same
       → (IsIn t (step b rs) → IsIn (b ∷ t) rs)
       → IsIn t (cond same ((u, key) ∷ step b rs) (step b rs)) → (b ∷ t ≡ x ∷ u) ⊎ IsIn (b ∷ t) rs
-  in_step_at b x t u key rs true is go (inl e) = let byte : x ≡ b = is_byte x b true is refl in inl (rw byte (ap (λ s. b ∷ s) e))
+  in_step_at b x t u key rs true is go (inl e) =
+      let byte : x ≡ b = is_byte x b true is refl in inl (rw byte (ap (λ s. b ∷ s) e))
   in_step_at b x t u key rs true is go (inr i) = inr (go i)
   in_step_at b x t u key rs false is go i = inr (go i)
 
@@ -322,7 +354,8 @@ module _ {K : Type 0} where
   in_step b t (([], key) ∷ rs) i = inr (in_step b t rs i)
   in_step b t ((x ∷ u, key) ∷ rs) i = in_step_at b x t u key rs (x == b) refl (in_step b t rs) i
 
-  in_suffix_at : (t u s : List ℕ) (key : K) (rs : RowsOf K) (same : Bool) → (IsIn t (with_suffix s rs) → IsIn t rs)
+  in_suffix_at : (t u s : List ℕ) (key : K) (rs : RowsOf K) (same : Bool)
+      → (IsIn t (with_suffix s rs) → IsIn t rs)
       → IsIn t (cond same ((u, key) ∷ with_suffix s rs) (with_suffix s rs)) → (t ≡ u) ⊎ IsIn t rs
   in_suffix_at t u s key rs true go (inl e) = inl e
   in_suffix_at t u s key rs true go (inr i) = inr (go i)
@@ -334,7 +367,9 @@ module _ {K : Type 0} where
 
   good_step : (b : ℕ) (rs : RowsOf K) → IsGood rs → IsGood (step b rs)
   good_step b rs good = record {
-    fit = λ p q i j. fits_inside b p q (good.fit (b ∷ p) (b ∷ q) (in_step b p rs i) (in_step b q rs j));
+    fit =
+        λ p q i j. fits_inside b p q
+        (good.fit (b ∷ p) (b ∷ q) (in_step b p rs i) (in_step b q rs j));
     shaped = λ p i. shaped_inside b p (good.shaped (b ∷ p) (in_step b p rs i));
   }
 
@@ -344,27 +379,35 @@ module _ {K : Type 0} where
     shaped = λ p i. good.shaped p (in_suffix s p rs i);
   }
 
-  bytes_after : (p : List ℕ) (rs : RowsOf K) → HeadByte p → ((q : List ℕ) → IsIn q rs → fits p q ≡ true) → Bytes rs
+  bytes_after : (p : List ℕ) (rs : RowsOf K) → HeadByte p
+      → ((q : List ℕ) → IsIn q rs → fits p q ≡ true) → Bytes rs
   bytes_after p [] byte fit = tt
   bytes_after p (([], key) ∷ rs) byte fit = bytes_after p rs byte (λ q i. fit q (inr i))
-  bytes_after p ((y ∷ u, key) ∷ rs) byte fit = (head_byte p y u byte (fit (y ∷ u) (inl refl)), bytes_after p rs byte (λ q i. fit q (inr i)))
+  bytes_after p ((y ∷ u, key) ∷ rs) byte fit =
+      (head_byte p y u byte (fit (y ∷ u) (inl refl)), bytes_after p rs byte (λ q i. fit q (inr i)))
 
   params_after : (t : List ℕ) (rs : RowsOf K) → ((q : List ℕ) → IsIn q rs → fits (256 ∷ t) q ≡ true)
       → ((q : List ℕ) → IsIn q rs → is_shaped q ≡ true) → Params rs
   params_after t [] fit shaped = tt
   params_after t (([], key) ∷ rs) fit shaped = absurd (true≢false (sym (fit [] (inl refl))))
   params_after t ((y ∷ u, key) ∷ rs) fit shaped =
-      let token = head_param t y u (256 == y) refl (fit (y ∷ u) (inl refl)) in
-      (token, tail_of y u token (shaped (y ∷ u) (inl refl)), params_after t rs (λ q i. fit q (inr i)) (λ q i. shaped q (inr i)))
+      let token = head_param t y u (256 == y) refl (fit (y ∷ u) (inl refl)) in (
+        token,
+        tail_of y u token (shaped (y ∷ u) (inl refl)),
+        params_after t rs
+            (λ q i. fit q (inr i)) (λ q i. shaped q (inr i)),
+      )
 
-  kind_at : (x : ℕ) (t : List ℕ) (key : K) (rs : RowsOf K) (same : Bool) → (x == 256) ≡ same → IsGood ((x ∷ t, key) ∷ rs)
+  kind_at : (x : ℕ) (t : List ℕ) (key : K) (rs : RowsOf K) (same : Bool) → (x == 256) ≡ same
+      → IsGood ((x ∷ t, key) ∷ rs)
       → Bytes ((x ∷ t, key) ∷ rs) ⊎ Params ((x ∷ t, key) ∷ rs)
   kind_at x t key rs true is good =
       let token = is_byte x 256 true is refl in
       inr (
         token,
         tail_of x t token (good.shaped (x ∷ t) (inl refl)),
-        params_after t rs (λ q i. subst (λ (y : ℕ). fits (y ∷ t) q ≡ true) token (good.fit (x ∷ t) q (inl refl) (inr i)))
+        params_after t rs (λ q i. subst (λ (y : ℕ). fits (y ∷ t) q ≡ true) token
+            (good.fit (x ∷ t) q (inl refl) (inr i)))
             (λ q i. good.shaped q (inr i)),
       )
   kind_at x t key rs false is good =
@@ -378,8 +421,10 @@ module _ {K : Type 0} where
 
   -- ---- the theorem
 
-  param_is : (ps : RowsOf K) (p l : List ℕ) (slash : Bool) → longest_suffix (segment p) ps ≡ l → has_slash p ≡ slash
-      → param_step ps p ≡ cond (nat_lt 0 (length l)) (length (segment p) - length l, with_suffix l ps) (cond slash (0, []) (length p, ps))
+  param_is : (ps : RowsOf K) (p l : List ℕ) (slash : Bool) → longest_suffix (segment p) ps ≡ l
+      → has_slash p ≡ slash
+      → param_step ps p ≡ cond (nat_lt 0 (length l))
+      (length (segment p) - length l, with_suffix l ps) (cond slash (0, []) (length p, ps))
   unfolding param_step
   param_is ps p l slash e f = rw (e, f)
 
@@ -387,7 +432,8 @@ module _ {K : Type 0} where
   After r path = seek (r.0 - 1) r.1 path
 
   -- a part that ends at a slash
-  at_slash : (b : ℕ) (path : List ℕ) (ps : RowsOf K) (sp : Split path) (some : Bool) → has_tail ps ≡ some → Tails ps
+  at_slash : (b : ℕ) (path : List ℕ) (ps : RowsOf K) (sp : Split path) (some : Bool)
+      → has_tail ps ≡ some → Tails ps
       → list_all (λ x. nat_lt x 256) path ≡ true
       → ((rest : List ℕ) → length rest ≤ length path → list_all (λ x. nat_lt x 256) rest ≡ true
       → seek 0 (with_suffix (47 ∷ []) ps) rest ≡ hit (with_suffix (47 ∷ []) ps) rest)
@@ -397,19 +443,26 @@ module _ {K : Type 0} where
         with_suffix (cond {A = List ℕ} some (47 ∷ []) []) ps,
       ) (0, [])) path ≡ hit ps (47 ∷ sp.rest)
   at_slash b path ps sp true is ts bytes go =
-      let n : length (b ∷ (sp.front ++ 47 ∷ [])) - 1 - 1 ≡ length sp.front = omega (arith, length-append sp.front (47 ∷ [])) in
+      let n : length (b ∷ (sp.front ++ 47 ∷ [])) - 1 - 1 ≡ length sp.front =
+      omega (arith, length-append sp.front (47 ∷ [])) in
       let cut : drop (length (b ∷ (sp.front ++ 47 ∷ [])) - 1 - 1) path ≡ 47 ∷ sp.rest =
-      ap (λ (k : ℕ). drop k path) n ∙ ap (drop (length sp.front)) sp.whole ∙ drop-append_seam sp.front (47 ∷ sp.rest) in
-      let shorter : length (47 ∷ sp.rest) ≤ length path = omega (arith, ap length sp.whole, length-append sp.front (47 ∷ sp.rest)) in
+      ap (λ (k : ℕ). drop k path) n ∙ ap (drop (length sp.front)) sp.whole
+      ∙ drop-append_seam sp.front (47 ∷ sp.rest) in
+      let shorter : length (47 ∷ sp.rest) ≤ length path =
+      omega (arith, ap length sp.whole, length-append sp.front (47 ∷ sp.rest)) in
       seek_skip _ (with_suffix (47 ∷ []) ps) path ∙ ap (seek 0 (with_suffix (47 ∷ []) ps)) cut
-      ∙ go (47 ∷ sp.rest) shorter (bytes_behind sp.front (47 ∷ sp.rest) (ap (list_all (λ x. nat_lt x 256)) (sym sp.whole) ∙ bytes))
+      ∙ go (47 ∷ sp.rest) shorter
+      (bytes_behind sp.front (47 ∷ sp.rest)
+      (ap (list_all (λ x. nat_lt x 256)) (sym sp.whole) ∙ bytes))
       ∙ sym (hit_suffix sp.rest ps ts)
   at_slash b path ps sp false is ts bytes go = seek_none 0 path ∙ sym (hit_no_tail sp.rest ps is)
 
-  part_at : (b : ℕ) (path : List ℕ) (rs : RowsOf K) (slash : Bool) → has_slash path ≡ slash → (b == 47) ≡ false → Params rs
+  part_at : (b : ℕ) (path : List ℕ) (rs : RowsOf K) (slash : Bool) → has_slash path ≡ slash
+      → (b == 47) ≡ false → Params rs
       → list_all (λ x. nat_lt x 256) path ≡ true
       → ((rest : List ℕ) → length rest ≤ length path → list_all (λ x. nat_lt x 256) rest ≡ true
-      → seek 0 (with_suffix (47 ∷ []) (step 256 rs)) rest ≡ hit (with_suffix (47 ∷ []) (step 256 rs)) rest)
+      → seek 0 (with_suffix (47 ∷ []) (step 256 rs)) rest
+      ≡ hit (with_suffix (47 ∷ []) (step 256 rs)) rest)
       → After (param_step (step 256 rs) (b ∷ path)) path ≡ hit rs (b ∷ path)
   part_at b path rs true has part params bytes go =
       let ps = step 256 rs in
@@ -428,51 +481,66 @@ module _ {K : Type 0} where
       let none = no_split path has in
       let slash : has_slash (b ∷ path) ≡ false = rw (part, has) in
       let seg : segment (b ∷ path) ≡ b ∷ path = rw (part, none.0) in
-      let long : longest_suffix (segment (b ∷ path)) ps ≡ [] = rw seg (longest_none (b ∷ path) ps (cuts_none (b ∷ path) slash) ts) in
+      let long : longest_suffix (segment (b ∷ path)) ps ≡ [] =
+      rw seg (longest_none (b ∷ path) ps (cuts_none (b ∷ path) slash) ts) in
       let end : drop (length (b ∷ path) - 1) path ≡ [] =
-      ap (λ (k : ℕ). drop k path) (let e : length (b ∷ path) - 1 ≡ length path = omega arith in e) ∙ drop-length path in
+      ap (λ (k : ℕ). drop k path) (let e : length (b ∷ path) - 1 ≡ length path = omega arith in e)
+      ∙ drop-length path in
       ap (λ r. After r path) (param_is ps (b ∷ path) [] false long slash)
       ∙ seek_skip (length (b ∷ path) - 1) ps path ∙ ap (seek 0 ps) end ∙ at_end ps ∙ own_hit ps
       ∙ ap (hit ps) (sym none.1) ∙ sym (hit_part b path rs part params)
 
-  slash_at : (path : List ℕ) (rs : RowsOf K) → Params rs → After (param_step (step 256 rs) (47 ∷ path)) path ≡ hit rs (47 ∷ path)
+  slash_at : (path : List ℕ) (rs : RowsOf K) → Params rs
+      → After (param_step (step 256 rs) (47 ∷ path)) path ≡ hit rs (47 ∷ path)
   slash_at path rs params =
       let ps = step 256 rs in
-      ap (λ r. After r path) (param_is ps (47 ∷ path) [] true (longest_none (47 ∷ []) ps refl (tails rs params)) refl)
+      ap (λ r. After r path)
+      (param_is ps (47 ∷ path) [] true (longest_none (47 ∷ []) ps refl (tails rs params)) refl)
       ∙ seek_none 0 path ∙ sym (hit_slash path rs params)
 
   any_at : (b : ℕ) (path : List ℕ) (rs : RowsOf K) (same : Bool) → (b == 47) ≡ same → Params rs
       → list_all (λ x. nat_lt x 256) path ≡ true
       → ((rest : List ℕ) → length rest ≤ length path → list_all (λ x. nat_lt x 256) rest ≡ true
-      → seek 0 (with_suffix (47 ∷ []) (step 256 rs)) rest ≡ hit (with_suffix (47 ∷ []) (step 256 rs)) rest)
+      → seek 0 (with_suffix (47 ∷ []) (step 256 rs)) rest
+      ≡ hit (with_suffix (47 ∷ []) (step 256 rs)) rest)
       → After (param_step (step 256 rs) (b ∷ path)) path ≡ hit rs (b ∷ path)
-  any_at b path rs true is params bytes go = let byte : b ≡ 47 = is_byte b 47 true is refl in rw byte (slash_at path rs params)
-  any_at b path rs false is params bytes go = part_at b path rs (has_slash path) refl is params bytes go
+  any_at b path rs true is params bytes go =
+      let byte : b ≡ 47 = is_byte b 47 true is refl in rw byte (slash_at path rs params)
+  any_at b path rs false is params bytes go =
+      part_at b path rs (has_slash path) refl is params bytes go
 
   -- at a node of bytes, and at a node of parameters
-  one_step : (b : ℕ) (path : List ℕ) (rs : RowsOf K) → b < 256 → list_all (λ x. nat_lt x 256) path ≡ true → Bytes rs ⊎ Params rs
+  one_step : (b : ℕ) (path : List ℕ) (rs : RowsOf K) → b < 256
+      → list_all (λ x. nat_lt x 256) path ≡ true → Bytes rs ⊎ Params rs
       → seek 0 (step b rs) path ≡ hit (step b rs) path
       → ((rest : List ℕ) → length rest ≤ length path → list_all (λ x. nat_lt x 256) rest ≡ true
-      → seek 0 (with_suffix (47 ∷ []) (step 256 rs)) rest ≡ hit (with_suffix (47 ∷ []) (step 256 rs)) rest)
-      → or_else (seek 0 (step b rs) path) (or_else (After (param_step (step 256 rs) (b ∷ path)) path) (own (step 257 rs))) ≡ hit rs (b ∷ path)
+      → seek 0 (with_suffix (47 ∷ []) (step 256 rs)) rest
+      ≡ hit (with_suffix (47 ∷ []) (step 256 rs)) rest)
+      → or_else (seek 0 (step b rs) path)
+      (or_else (After (param_step (step 256 rs) (b ∷ path)) path) (own (step 257 rs)))
+      ≡ hit rs (b ∷ path)
   one_step b path rs below small (inl bytes) first more =
       let none : After (param_step (step 256 rs) (b ∷ path)) path ≡ None =
       ap (λ ps. After (param_step ps (b ∷ path)) path) (no_step 256 rs (omega arith) bytes)
-      ∙ ap (λ ps. seek ((param_step {K = K} [] (b ∷ path)).0 - 1) ps path) (nothing (b ∷ path)) ∙ seek_none _ path in
+      ∙ ap (λ ps. seek ((param_step {K = K} [] (b ∷ path)).0 - 1) ps path) (nothing (b ∷ path))
+      ∙ seek_none _ path in
       let catch : own (step 257 rs) ≡ None = ap own (no_step 257 rs (omega arith) bytes) in
       rw (none, catch) (or_none _ ∙ first ∙ sym (hit_byte b path rs bytes))
   one_step b path rs below small (inr params) first more =
-      let gone : seek 0 (step b rs) path ≡ None = ap (λ r. seek 0 r path) (other_step b rs (λ e. omega arith) params) ∙ seek_none 0 path in
+      let gone : seek 0 (step b rs) path ≡ None =
+      ap (λ r. seek 0 r path) (other_step b rs (λ e. omega arith) params) ∙ seek_none 0 path in
       let catch : own (step 257 rs) ≡ None = ap own (other_step 257 rs (λ e. omega arith) params) in
       rw (gone, catch) (or_none _ ∙ any_at b path rs (b == 47) refl params small more)
 
-  pub seek_hit : (n : ℕ) (rs : RowsOf K) (path : List ℕ) → length path ≤ n → IsGood rs → list_all (λ b. nat_lt b 256) path ≡ true
+  pub seek_hit : (n : ℕ) (rs : RowsOf K) (path : List ℕ) → length path ≤ n → IsGood rs
+      → list_all (λ b. nat_lt b 256) path ≡ true
       → seek 0 rs path ≡ hit rs path
   unfolding seek
   seek_hit n rs [] h good bytes = own_hit rs
   seek_hit zero rs (b ∷ path) h good bytes = absurd (omega arith)
   seek_hit (suc n) rs (b ∷ path) h good bytes =
-      one_step b path rs (is_below b 256 (and_parts _ _ bytes).0) (and_parts _ _ bytes).1 (kind rs good)
+      one_step b path rs (is_below b 256 (and_parts _ _ bytes).0) (and_parts _ _ bytes).1
+      (kind rs good)
       (seek_hit n (step b rs) path (omega arith) (good_step b rs good) (and_parts _ _ bytes).1)
       (λ rest shorter small. seek_hit n (with_suffix (47 ∷ []) (step 256 rs)) rest (omega arith)
       (good_suffix (47 ∷ []) (step 256 rs) (good_step 256 rs good)) small)

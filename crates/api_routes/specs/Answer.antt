@@ -1,9 +1,10 @@
--- What is answered to a request, given what the book replied.
+-- What is answered to a request, given what the book replied. (After AMWA IS-08 v1.0.)
 use Rattle.std.specs.Prelude.{◌≡◌, ℕ, List, [], ◌++◌, Bool, true, eqb, find, Option, Some, None}
 use Rattle.http_wire.specs.Response.{response_text}
 use Rattle.http_wire.specs.declared.request.HttpRequest.{HttpRequest}
 use Rattle.http_wire.specs.declared.response.Extra.{Extra}
-use Rattle.http_wire.specs.declared.response.Extra.TheVariants.{Nothing, Preflight as PreflightLines}
+use Rattle.http_wire.specs.declared.response.Extra.TheVariants.{Nothing}
+use Rattle.http_wire.specs.declared.response.Extra.TheVariants.{Preflight as PreflightLines}
 use Rattle.io_caps.specs.declared.device.DeviceParts.{DeviceParts}
 use Rattle.map_entry.specs.Setup.{SetupParts}
 use Rattle.plain_book.specs.Calls.{action_of, when_of}
@@ -11,14 +12,16 @@ use Rattle.plain_book.specs.Desk.{IsAsked}
 use Rattle.plain_book.specs.declared.calls.JournalCall.{JournalCall}
 use Rattle.plain_book.specs.declared.replies.PendingItem.{PendingItem}
 use Rattle.plain_book.specs.declared.replies.Reply.{Reply}
-use Rattle.plain_book.specs.declared.replies.Reply.TheVariants.{Activated, Scheduled, Deleted, Active, Pending, Refused as Refusal}
+use Rattle.plain_book.specs.declared.replies.Reply.TheVariants.{Activated, Scheduled, Deleted}
+use Rattle.plain_book.specs.declared.replies.Reply.TheVariants.{Active, Pending, Refused as Refusal}
 use Rattle.plain_book.specs.declared.requests.Request.{Request}
 use Rattle.plain_book.specs.declared.requests.Stamp.{Stamp}
 use Rattle.channel_json.specs.Activations.{accepted_text, item_text, pending_text, active_text}
 use Rattle.channel_json.specs.Errors.{error_text}
 use Rattle.channel_json.specs.Resources.{resource_text}
 use Rattle.api_routes.specs.declared.wrong.Wrong.{Wrong}
-use Rattle.api_routes.specs.declared.wrong.Wrong.TheVariants.{NoActivation, Refused, Stream, NoMemory}
+use Rattle.api_routes.specs.declared.wrong.Wrong.TheVariants.{NoActivation, Refused, Stream}
+use Rattle.api_routes.specs.declared.wrong.Wrong.TheVariants.{NoMemory}
 use Rattle.api_routes.specs.declared.plan.Part.{Part}
 use Rattle.api_routes.specs.declared.plan.Part.TheVariants.{Item, Row}
 use Rattle.api_routes.specs.declared.plan.Plan.{Plan}
@@ -35,7 +38,8 @@ said status extra body = record { status = status; extra = extra; body = body }
 
 -- what is said of something wrong
 abbrev pub said_wrong : Wrong → Said
-said_wrong wrong = said (status_of wrong) (extra_of wrong) (error_text (status_of wrong) (text_of wrong))
+said_wrong wrong =
+    said (status_of wrong) (extra_of wrong) (error_text (status_of wrong) (text_of wrong))
 
 -- ---- what is said of the book's reply
 
@@ -56,10 +60,13 @@ only_of part = None
 
 -- an accepted activation is shown with what was asked; a deletion leaves nothing to show
 abbrev pub said_reply : DeviceParts → Request → Part → Reply → Said
-said_reply device request part (Activated id tick) = said 200 Nothing (accepted_text device id (when_of request) tick (action_of request))
-said_reply device request part (Scheduled id tick) = said 202 Nothing (accepted_text device id (when_of request) tick (action_of request))
+said_reply device request part (Activated id tick) =
+    said 200 Nothing (accepted_text device id (when_of request) tick (action_of request))
+said_reply device request part (Scheduled id tick) =
+    said 202 Nothing (accepted_text device id (when_of request) tick (action_of request))
 said_reply device request part (Deleted id) = said 204 Nothing []
-said_reply device request part (Active view) = said 200 Nothing (active_text device view (only_of part))
+said_reply device request part (Active view) =
+    said 200 Nothing (active_text device view (only_of part))
 said_reply device request part (Pending items) = said_pending device part items
 said_reply device request part (Refusal refusal) = said_wrong (Refused refusal)
 
@@ -96,34 +103,43 @@ no_memory_text = text_said true (said_wrong NoMemory)
 -- ---- what a call does
 
 -- the book was asked with this request for a client, and replied at this place
-pub record IsReplied (s : SetupParts) (client : ℕ) (old new : List JournalCall) (request : Request) (stamp : Stamp) : Type 0 where
+pub record IsReplied (s : SetupParts) (client : ℕ) (old new : List JournalCall) (request : Request)
+    (stamp : Stamp) : Type 0 where
   pub reply : Reply
   pub asked : IsAsked s old new client request reply stamp
 
 -- and so much more was written as the reply says
-pub record IsWritten (s : SetupParts) (client : ℕ) (old new : List JournalCall) (request : Request) (stamp : Stamp) (text : Reply → List ℕ)
+pub record IsWritten (s : SetupParts) (client : ℕ) (old new : List JournalCall) (request : Request)
+    (stamp : Stamp) (text : Reply → List ℕ)
     (before after : List ℕ) : Type 0 where
   pub reply : Reply
   pub asked : IsAsked s old new client request reply stamp
   pub written : after ≡ before ++ text reply
 
--- Served without the book: it isn't to be asked, its journal is as it was, and the response is fixed. Or served by it: it was asked
--- with the request that is to be asked, and the response is that to its reply.
-abbrev pub IsServed : DeviceParts → HttpRequest → SetupParts → ℕ → List JournalCall → List JournalCall → List ℕ → List ℕ → Answered → Type 0
+-- Served without the book: it isn't to be asked, its journal is as it was, and the response is
+-- fixed. Or served by it: it was asked with the request that is to be asked, and the response is
+-- that to its reply.
+abbrev pub IsServed : DeviceParts → HttpRequest → SetupParts → ℕ → List JournalCall
+    → List JournalCall → List ℕ → List ℕ → Answered → Type 0
 IsServed device http s client old new before after Still =
-    (request_asked device http ≡ None) × (new ≡ old) × (after ≡ before ++ response_of device http None)
+    (request_asked device http ≡ None) × (new ≡ old)
+    × (after ≡ before ++ response_of device http None)
 IsServed device http s client old new before after (At stamp) =
     (request : Request) × (request_asked device http ≡ Some request)
-    × IsWritten s client old new request stamp (λ reply. response_of device http (Some reply)) before after
+    × IsWritten s client old new request stamp
+    (λ reply. response_of device http (Some reply)) before after
 
 -- Not served for want of memory: the journal is as it was; or the book had answered at this place.
-abbrev pub IsUnserved : DeviceParts → HttpRequest → SetupParts → ℕ → List JournalCall → List JournalCall → Option Stamp → Type 0
+abbrev pub IsUnserved : DeviceParts → HttpRequest → SetupParts → ℕ → List JournalCall
+    → List JournalCall → Option Stamp → Type 0
 IsUnserved device http s client old new None = new ≡ old
 IsUnserved device http s client old new (Some stamp) =
-    (request : Request) × (request_asked device http ≡ Some request) × IsReplied s client old new request stamp
+    (request : Request) × (request_asked device http ≡ Some request)
+    × IsReplied s client old new request stamp
 
 -- the same of a request with which the book is asked
-abbrev pub IsUnwritten : SetupParts → ℕ → List JournalCall → List JournalCall → Request → Option Stamp → Type 0
+abbrev pub IsUnwritten : SetupParts → ℕ → List JournalCall → List JournalCall → Request
+    → Option Stamp → Type 0
 IsUnwritten s client old new request None = new ≡ old
 IsUnwritten s client old new request (Some stamp) = IsReplied s client old new request stamp
 
@@ -131,3 +147,8 @@ IsUnwritten s client old new request (Some stamp) = IsReplied s client old new r
 abbrev pub OnStill : Answered → Type 0 → Type 0
 OnStill Still P = P
 OnStill (At stamp) P = Unit {0}
+
+-- what holds of the place at which the book was asked
+abbrev pub OnAt : Answered → (Stamp → Type 0) → Type 0
+OnAt Still P = Unit {0}
+OnAt (At stamp) P = P stamp

@@ -1,5 +1,6 @@
--- Which paths a route's pattern takes.
-use Rattle.std.specs.Prelude.{ℕ, Bool, true, false, not, ◌&&◌, ◌==◌, if◌then◌else◌, List, [], ◌∷◌, Option, Some, None, drop}
+-- Which paths a route's pattern takes. (This project's own.)
+use Rattle.std.specs.Prelude.{ℕ, Bool, true, false, not, ◌&&◌, ◌==◌, if◌then◌else◌, List, [], ◌∷◌}
+use Rattle.std.specs.Prelude.{Option, Some, None, drop}
 use Rattle.matchit.specs.Rows.{RowsOf}
 
 -- the text from its first slash on

@@ -1,8 +1,12 @@
--- The resources of the API, by the paths that they have. A part is any text between two slashes that is not empty.
+-- The resources of the API, by the paths that they have. (AMWA IS-08 v1.0.) A part is any text
+-- between two slashes that is not empty.
 use Rattle.std.specs.Prelude.{ℕ, List, [], ◌∷◌, ◌++◌, codes}
 use Rattle.matchit.specs.Rows.{RowsOf}
 use Rattle.api_routes.specs.declared.routes.Route.{Route}
-use Rattle.api_routes.specs.declared.routes.Route.TheVariants.{Slash, Nmos, Mapping, Version, Inputs, Outputs, OfInput, OfOutput, Map, Activations, Activation, Active, ActiveOutput, Io}
+use Rattle.api_routes.specs.declared.routes.Route.TheVariants.{Slash, Nmos, Mapping, Version}
+use Rattle.api_routes.specs.declared.routes.Route.TheVariants.{Inputs, Outputs, OfInput, OfOutput}
+use Rattle.api_routes.specs.declared.routes.Route.TheVariants.{Map, Activations, Activation, Active}
+use Rattle.api_routes.specs.declared.routes.Route.TheVariants.{ActiveOutput, Io}
 use Rattle.api_routes.specs.declared.routes.InputPart.TheVariants as input
 use Rattle.api_routes.specs.declared.routes.OutputPart.TheVariants as output
 

@@ -1,20 +1,25 @@
--- What a request comes to, before the book is asked. (After AMWA IS-08 v1.0 and RFC 9110; the order of the refusals is this project's own.)
-use Rattle.std.specs.Prelude.{ℕ, List, Bool, true, false, Option, Some, None, Result, Ok, Err, if◌then◌else◌}
+-- What a request comes to, before the book is asked. (After AMWA IS-08 v1.0 and RFC 9110; the order
+-- of the refusals is this project's own.)
+use Rattle.std.specs.Prelude.{ℕ, List, Bool, true, false, Option, Some, None, Result, Ok, Err}
+use Rattle.std.specs.Prelude.{if◌then◌else◌}
 use Rattle.io_caps.specs.declared.device.DeviceParts.{DeviceParts}
 use Rattle.http_wire.specs.declared.request.HttpRequest.{HttpRequest}
 use Rattle.http_wire.specs.declared.request.Method.{Method}
-use Rattle.http_wire.specs.declared.request.Method.TheVariants.{Get, Post, Delete as DeleteMethod, Options}
+use Rattle.http_wire.specs.declared.request.Method.TheVariants.{Get, Post, Delete as DeleteMethod}
+use Rattle.http_wire.specs.declared.request.Method.TheVariants.{Options}
 use Rattle.http_wire.specs.declared.response.Extra.{Extra}
 use Rattle.http_wire.specs.declared.response.Extra.TheVariants.{AllowGet, AllowPost, AllowDelete}
 use Rattle.plain_book.specs.declared.requests.Request.{Request}
-use Rattle.plain_book.specs.declared.requests.Request.TheVariants.{Delete, Active as AskActive, Pending as AskPending}
+use Rattle.plain_book.specs.declared.requests.Request.TheVariants.{Delete, Active as AskActive}
+use Rattle.plain_book.specs.declared.requests.Request.TheVariants.{Pending as AskPending}
 use Rattle.channel_json.specs.declared.faults.BodyFault.{BodyFault}
 use Rattle.channel_json.specs.Requests.{request_by}
 use Rattle.channel_json.specs.Resources.{IsThere}
 use Rattle.api_routes.specs.declared.routes.Route.{Route}
 use Rattle.api_routes.specs.declared.routes.Route.TheVariants.{Activations, Activation}
 use Rattle.api_routes.specs.declared.targets.Target.{Target}
-use Rattle.api_routes.specs.declared.targets.Target.TheVariants.{Fixed, AllPending, OnePending, Rows}
+use Rattle.api_routes.specs.declared.targets.Target.TheVariants.{Fixed, AllPending, OnePending}
+use Rattle.api_routes.specs.declared.targets.Target.TheVariants.{Rows}
 use Rattle.api_routes.specs.declared.wrong.Wrong.TheVariants.{NoResource, NoMethod, Body}
 use Rattle.api_routes.specs.declared.plan.Part.TheVariants.{Whole, Item, Row}
 use Rattle.api_routes.specs.declared.plan.Plan.{Plan}
@@ -79,7 +84,9 @@ is_options method = false
 
 -- what a request comes to
 abbrev pub plan_of : DeviceParts → HttpRequest → Plan
-plan_of device http = if is_options http.method then Preflight else plan_path device (cut_path http.path) http.method http.body
+plan_of device http =
+    if is_options http.method then Preflight
+    else plan_path device (cut_path http.path) http.method http.body
 
 -- the request with which a plan asks the book
 abbrev pub asked_by : Plan → Option Request
@@ -90,7 +97,7 @@ asked_by plan = None
 abbrev pub request_asked : DeviceParts → HttpRequest → Option Request
 request_asked device http = asked_by (plan_of device http)
 
--- the input or output of a resource that is shown is there, and what is refused has a status of its own
+-- the input or output of a resource that is shown is there, and what is refused has a status
 abbrev pub IsPlanOk : DeviceParts → Plan → Type 0
 IsPlanOk device (Show resource) = IsThere device resource
 IsPlanOk device (Refuse wrong) = IsStatus (status_of wrong)

@@ -1,4 +1,4 @@
--- The routes of the API.
+-- The rows of a router that has the routes of the API. (This project's own.)
 use Rattle.std.specs.Prelude.{ℕ, List, [], ◌∷◌, Result, Ok, Err, map}
 use Rattle.api_routes.specs.declared.routes.TheConstants.{ROUTES}
 use Rattle.matchit.specs.Rows.{RowsOf}

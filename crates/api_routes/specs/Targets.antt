@@ -1,5 +1,8 @@
--- What a path leads to on a device: the resource, with the input, output or activation that it names.
-use Rattle.std.specs.Prelude.{ℕ, ◌-◌, ◌^◌, ◌==◌, ◌&&◌, nat_lt, List, length, take, drop, slice_index, Bool, Option, Some, None, option_map, option_and_then, if◌then◌else◌, codes}
+-- What a path leads to on a device: the resource, with what it names of inputs, outputs and
+-- activations. (This project's own.)
+use Rattle.std.specs.Prelude.{ℕ, ◌-◌, ◌^◌, ◌==◌, ◌&&◌, nat_lt, List, length, take, drop}
+use Rattle.std.specs.Prelude.{slice_index, Bool, Option, Some, None, option_map, option_and_then}
+use Rattle.std.specs.Prelude.{if◌then◌else◌, codes}
 use Rattle.std.specs.List.{before_first}
 use Rattle.std.specs.Str.{is_utf8}
 use Rattle.io_caps.specs.declared.device.DeviceParts.{DeviceParts}
@@ -8,13 +11,17 @@ use Rattle.channel_json.specs.declared.resource.Resource.TheVariants as fixed
 use Rattle.channel_json.specs.Requests.{input_number, output_number, number_in}
 use Rattle.channel_json.specs.Resources.{IsThere}
 use Rattle.api_routes.specs.declared.routes.Route.{Route}
-use Rattle.api_routes.specs.declared.routes.Route.TheVariants.{Slash, Nmos, Mapping, Version, Inputs, Outputs, OfInput, OfOutput, Map, Activations, Activation, Active, ActiveOutput, Io}
+use Rattle.api_routes.specs.declared.routes.Route.TheVariants.{Slash, Nmos, Mapping, Version}
+use Rattle.api_routes.specs.declared.routes.Route.TheVariants.{Inputs, Outputs, OfInput, OfOutput}
+use Rattle.api_routes.specs.declared.routes.Route.TheVariants.{Map, Activations, Activation, Active}
+use Rattle.api_routes.specs.declared.routes.Route.TheVariants.{ActiveOutput, Io}
 use Rattle.api_routes.specs.declared.routes.InputPart.{InputPart}
 use Rattle.api_routes.specs.declared.routes.InputPart.TheVariants as input
 use Rattle.api_routes.specs.declared.routes.OutputPart.{OutputPart}
 use Rattle.api_routes.specs.declared.routes.OutputPart.TheVariants as output
 use Rattle.api_routes.specs.declared.targets.Target.{Target}
-use Rattle.api_routes.specs.declared.targets.Target.TheVariants.{Fixed, AllPending, OnePending, Rows}
+use Rattle.api_routes.specs.declared.targets.Target.TheVariants.{Fixed, AllPending, OnePending}
+use Rattle.api_routes.specs.declared.targets.Target.TheVariants.{Rows}
 use Rattle.api_routes.specs.Match.{hit}
 use Rattle.api_routes.specs.Paths.{resources, under}
 
@@ -22,7 +29,9 @@ use Rattle.api_routes.specs.Paths.{resources, under}
 
 -- the path without one trailing slash, unless it is a slash alone
 abbrev pub cut_path : List ℕ → List ℕ
-cut_path path = if nat_lt 1 (length path) && (slice_index path (length path - 1) == 47) then take (length path - 1) path else path
+cut_path path =
+    if nat_lt 1 (length path) && (slice_index path (length path - 1) == 47)
+    then take (length path - 1) path else path
 
 -- the resource of a path so cut. Paths are UTF-8.
 abbrev pub route_of : List ℕ → Option Route
@@ -86,13 +95,16 @@ target_of device Mapping path = Some (Fixed fixed.Mapping)
 target_of device Version path = Some (Fixed fixed.Version)
 target_of device Inputs path = Some (Fixed fixed.Inputs)
 target_of device Outputs path = Some (Fixed fixed.Outputs)
-target_of device (OfInput part) path = option_map (λ number. Fixed (input_resource part number)) (named_input device path)
-target_of device (OfOutput part) path = option_map (λ number. Fixed (output_resource part number)) (named_output device path)
+target_of device (OfInput part) path =
+    option_map (λ number. Fixed (input_resource part number)) (named_input device path)
+target_of device (OfOutput part) path =
+    option_map (λ number. Fixed (output_resource part number)) (named_output device path)
 target_of device Map path = Some (Fixed fixed.Map)
 target_of device Activations path = Some AllPending
 target_of device Activation path = option_map OnePending (named_activation path)
 target_of device Active path = Some (Rows None)
-target_of device ActiveOutput path = option_map (λ output. Rows (Some output)) (named_row device path)
+target_of device ActiveOutput path =
+    option_map (λ output. Rows (Some output)) (named_row device path)
 target_of device Io path = Some (Fixed fixed.Io)
 
 -- the input or output of a fixed resource is there

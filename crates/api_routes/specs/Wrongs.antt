@@ -1,17 +1,26 @@
--- Statuses and texts of errors.
+-- Statuses and texts of errors. (Statuses: AMWA IS-08 v1.0 and RFC 9110; the texts are this
+-- project's own.)
 use Rattle.std.specs.Prelude.{ℕ, ◌==◌, List, if◌then◌else◌, codes}
 use Rattle.http_wire.specs.declared.response.Extra.{Extra}
 use Rattle.http_wire.specs.declared.response.Extra.TheVariants.{Nothing}
 use Rattle.map_entry.specs.declared.fault.RowFault.{RowFault}
-use Rattle.map_entry.specs.declared.fault.RowFault.TheVariants.{Input as NoInput, Channel as NoChannel, NotRoutable, Block, Order}
+use Rattle.map_entry.specs.declared.fault.RowFault.TheVariants.{Input as NoInput}
+use Rattle.map_entry.specs.declared.fault.RowFault.TheVariants.{Channel as NoChannel, NotRoutable}
+use Rattle.map_entry.specs.declared.fault.RowFault.TheVariants.{Block, Order}
 use Rattle.plain_book.specs.declared.replies.Refusal.{Refusal}
-use Rattle.plain_book.specs.declared.replies.Refusal.TheVariants.{Empty, Unknown, BadChannel, Locked, Row, Time as NoTime, NotPending, Full}
+use Rattle.plain_book.specs.declared.replies.Refusal.TheVariants.{Empty, Unknown, BadChannel}
+use Rattle.plain_book.specs.declared.replies.Refusal.TheVariants.{Locked, Row, Time as NoTime}
+use Rattle.plain_book.specs.declared.replies.Refusal.TheVariants.{NotPending, Full}
 use Rattle.channel_json.specs.declared.faults.Place.{Place}
-use Rattle.channel_json.specs.declared.faults.Place.TheVariants.{Top, Activation, Mode, Time, Action, Output, Cell}
+use Rattle.channel_json.specs.declared.faults.Place.TheVariants.{Top, Activation, Mode, Time}
+use Rattle.channel_json.specs.declared.faults.Place.TheVariants.{Action, Output, Cell}
 use Rattle.channel_json.specs.declared.faults.BodyFault.{BodyFault}
-use Rattle.channel_json.specs.declared.faults.BodyFault.TheVariants.{NotJson, Shape, UnknownOutput, UnknownInput}
+use Rattle.channel_json.specs.declared.faults.BodyFault.TheVariants.{NotJson, Shape, UnknownOutput}
+use Rattle.channel_json.specs.declared.faults.BodyFault.TheVariants.{UnknownInput}
 use Rattle.api_routes.specs.declared.wrong.Wrong.{Wrong}
-use Rattle.api_routes.specs.declared.wrong.Wrong.TheVariants.{NoResource, NoMethod, Body, NoActivation, Refused, Stream, NoMemory}
+use Rattle.api_routes.specs.declared.wrong.Wrong.TheVariants.{NoResource, NoMethod, Body}
+use Rattle.api_routes.specs.declared.wrong.Wrong.TheVariants.{NoActivation, Refused, Stream}
+use Rattle.api_routes.specs.declared.wrong.Wrong.TheVariants.{NoMemory}
 
 -- ---- statuses
 

@@ -3,7 +3,8 @@
 ghost use Rattle.std.specs.Prelude.{◌≡◌, ◌++◌, [], IfOk, OnOk, OnErr, eqb, find};
 ghost use Rattle.std.specs.Option.{option_copied};
 ghost use Rattle.http_wire.specs.Response.{IsStatus};
-ghost use Rattle.api_routes.specs.Answer.{said, said_item, said_pending, said_reply, said_wrong, only_of, text_said};
+ghost use Rattle.api_routes.specs.Answer.{said, said_item, said_pending, said_reply, said_wrong};
+ghost use Rattle.api_routes.specs.Answer.{only_of, text_said};
 ghost use Rattle.channel_json.specs.Activations.{accepted_text, active_text};
 ghost use Rattle.channel_json.specs.Resources.{IsThere, resource_text};
 ghost use Rattle.http_wire.specs.declared.response.Extra.TheVariants.{Nothing, Preflight};

@@ -11,3 +11,6 @@ mod wrong;
 
 pub use routes::Routes;
 pub use serve::{Answered, ServeFault, asks, no_memory_response, refuse_stream, serve_request};
+
+#[cfg(test)]
+mod tests;

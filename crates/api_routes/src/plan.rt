@@ -1,7 +1,8 @@
 //! What a request comes to, before the book is asked.
 
 ghost use Rattle.std.specs.Prelude.{◌≡◌, IfOk};
-ghost use Rattle.api_routes.specs.Plan.{IsPlanOk, has_method, is_options, methods_of, plan_at, plan_of, plan_path, plan_route, plan_target, posted};
+ghost use Rattle.api_routes.specs.Plan.{IsPlanOk, has_method, is_options, methods_of, plan_at};
+ghost use Rattle.api_routes.specs.Plan.{plan_of, plan_path, plan_route, plan_target, posted};
 ghost use Rattle.api_routes.specs.Targets.{IsTargetThere};
 ghost use Rattle.channel_json.specs.Requests.{request_by};
 

@@ -2,7 +2,9 @@
 
 ghost use Rattle.std.specs.Prelude.{◌≡◌, ◌++◌, ◌⊎◌, IfOk, IfErr, OnOk, OnErr, None};
 ghost use Rattle.http_wire.specs.Response.{IsStatus};
-ghost use Rattle.api_routes.specs.Answer.{IsServed, IsUnserved, IsUnwritten, IsWritten, OnStill, no_memory_text, said_by, said_reply, stream_response, text_said};
+ghost use Rattle.api_routes.specs.Answer.{IsServed, IsUnserved, IsUnwritten, IsWritten, OnAt, OnStill};
+ghost use Rattle.api_routes.specs.Answer.{no_memory_text, said_by, said_reply, stream_response};
+ghost use Rattle.api_routes.specs.Answer.{text_said};
 ghost use Rattle.api_routes.specs.Plan.{IsPlanOk, request_asked};
 
 use crate::answer::{Said, said_preflight, said_reply, said_resource, said_wrong, write_said};
@@ -84,6 +86,7 @@ fn ask<D: Desk>(
         out.old.items out.new.items) }
     ensures fault { IfErr result (λ e. IsUnwritten (D.setup desk.old) client (D.journal desk.old)
         (D.journal desk.new) request.now e.asked) }
+    ensures claims { IfOk result (λ stamp. D.answers_at desk.old stamp.claims) }
     ensures out { OnErr result (out.new.items ≡ out.old.items) }
     ensures setup { D.setup desk.new ≡ D.setup desk.old }
     ensures lent { D.lent desk.new ≡ D.lent desk.old }
@@ -147,6 +150,8 @@ pub fn serve_request<D: Desk>(
     ensures served { IfOk result (IsServed device.now request.now (D.setup desk.old) client
         (D.journal desk.old) (D.journal desk.new) out.old.items out.new.items) }
     ensures still { IfOk result (λ answered. OnStill answered (desk.new ≡ desk.old)) }
+    ensures claims { IfOk result (λ answered. OnAt answered
+        (λ stamp. D.answers_at desk.old stamp.claims)) }
     ensures fault { IfErr result (λ e. IsUnserved device.now request.now (D.setup desk.old) client
         (D.journal desk.old) (D.journal desk.new) e.asked) }
     ensures out { OnErr result (out.new.items ≡ out.old.items) }

@@ -4,7 +4,10 @@ ghost use Rattle.std.specs.Prelude.{◌≡◌, ◌<◌, ◌-◌, ◌^◌, IfSome
 ghost use Rattle.channel_json.specs.Requests.{number_in};
 ghost use Rattle.std.specs.List.{before_first, position};
 ghost use Rattle.api_routes.specs.declared.targets.Target.TheVariants.{Fixed};
-ghost use Rattle.api_routes.specs.Targets.{IsTargetThere, cut_path, id_in, input_resource, is_slash, output_resource, named_activation, named_input, named_output, named_row, part_behind, route_of, target_of};
+ghost use Rattle.api_routes.specs.Targets.{IsTargetThere, cut_path, id_in, input_resource};
+ghost use Rattle.api_routes.specs.Targets.{is_slash, output_resource, named_activation};
+ghost use Rattle.api_routes.specs.Targets.{named_input, named_output, named_row, part_behind};
+ghost use Rattle.api_routes.specs.Targets.{route_of, target_of};
 
 use crate::routes::{InputPart, OutputPart, Route, Routes};
 use channel_json::{Resource, input_number, output_number};

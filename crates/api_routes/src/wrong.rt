@@ -1,7 +1,8 @@
 //! What is said to be wrong.
 
 ghost use Rattle.std.specs.Prelude.{◌≡◌};
-ghost use Rattle.api_routes.specs.Wrongs.{body_text, extra_of, place_text, refusal_status, refusal_text, row_text, status_of, stream_text, text_of};
+ghost use Rattle.api_routes.specs.Wrongs.{body_text, extra_of, place_text, refusal_status};
+ghost use Rattle.api_routes.specs.Wrongs.{refusal_text, row_text, status_of, stream_text, text_of};
 
 use channel_json::{BodyFault, Place};
 use http_wire::{Extra, status};
