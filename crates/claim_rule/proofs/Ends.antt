@@ -31,10 +31,16 @@ only v u (suc j) e = absurd (some-ne-none u (sym e))
 none_below : (number : ℕ) → 0 ≡ once_below number 0
 none_below number = grind (arith, nat_tests)
 
-pub opens_kept : (start : Start) (words : List ℕ) → Opens start words → Kept start (opening words [] (opener start))
+pub opens_kept : (start : Start) (words : List ℕ) → Opens start words
+    → Kept start (opening words [] (opener start))
 opens_kept start words o =
     let plan : Plan = plan_of start in let v : View = opener start in
-    let x : Shown = record { list = start.entries.value; drawn = 0; keeper = 0; cells = drop 1 start.words.value.items } in
+    let x : Shown = record {
+      list = start.entries.value;
+      drawn = 0;
+      keeper = 0;
+      cells = drop 1 start.words.value.items;
+    } in
     let fits : Fits plan x 0 v = record {
       bound = λ _. refl;
       idle = λ _. refl;
@@ -51,7 +57,8 @@ opens_kept start words o =
         words = o.head;
         spelt = o.spelt;
         listed = o.listed;
-        seats = λ j u e. let h = only v u j e in subst (λ (z : ℕ × View). Fits plan x z.0 z.1) (λ k. (sym h.0 k, h.1 k)) fits;
+        seats = λ j u e. let h = only v u j e in
+            subst (λ (z : ℕ × View). Fits plan x z.0 z.1) (λ k. (sym h.0 k, h.1 k)) fits;
         parts = omega arith;
         low = omega arith;
         count = refl;
@@ -60,39 +67,52 @@ opens_kept start words o =
     )
 
 -- the entries behind those that a draw found change no row of its tick
-pub stays_selected : (plan : Plan) (list : List Entry) (drawn : ℕ) (d : Draw) → IsGood plan list drawn d → StaysSelected plan list d
+pub stays_selected : (plan : Plan) (list : List Entry) (drawn : ℕ) (d : Draw)
+    → IsGood plan list drawn d → StaysSelected plan list d
 stays_selected plan list drawn d g early output =
     ap (λ (l : List Entry). selected l output (tick_of plan d.number)) g.front
     ∙ selected-later due d.found g.rest output (tick_of plan d.number) (g.later early)
 
 -- what is known where so many numbers were drawn
-ends_at : (plan : Plan) (list : List Entry) (draws : List Draw) (seen : List Sight) (drawn : ℕ) → drawn ≡ length draws → drawn ≤ plan.packets + plan.workers
-    → IsListed plan list drawn → All (IsGood plan list drawn) draws → ((number : ℕ) → times number draws ≡ once_below number drawn)
+ends_at : (plan : Plan) (list : List Entry) (draws : List Draw) (seen : List Sight) (drawn : ℕ)
+    → drawn ≡ length draws → drawn ≤ plan.packets + plan.workers
+    → IsListed plan list drawn → All (IsGood plan list drawn) draws
+    → ((number : ℕ) → times number draws ≡ once_below number drawn)
     → All (IsSight (length list) drawn) seen → Ends plan list draws seen
 ends_at plan list draws seen drawn is most listed good once sights = record {
   most = omega arith;
   listed = subst (IsListed plan list) is listed;
   good = subst (λ (n : ℕ). All (IsGood plan list n) draws) is good;
-  rows = All-weaker (IsGood plan list drawn) (StaysSelected plan list) (stays_selected plan list drawn) draws good;
+  rows = All-weaker (IsGood plan list drawn) (StaysSelected plan list)
+      (stays_selected plan list drawn) draws good;
   once = λ number. once number ∙ ap (once_below number) is;
   sights = subst (λ (n : ℕ). All (IsSight (length list) n) seen) is sights;
 }
 
 -- in the end the publisher has every part
-pub ends_so : (start : Start) (id : ℕ) (v : View) (words : List ℕ) (slots : List (List Entry)) → v.publishes ≡ true → v.parts ≡ start.workers
-    → Final (Seen (Kept start) id v) words slots → Ends (plan_of start) v.entries v.draws (v.sights ++ v.told)
+pub ends_so : (start : Start) (id : ℕ) (v : View) (words : List ℕ) (slots : List (List Entry))
+    → v.publishes ≡ true → v.parts ≡ start.workers
+    → Final (Seen (Kept start) id v) words slots
+    → Ends (plan_of start) v.entries v.draws (v.sights ++ v.told)
 ends_so start id v words slots loud whole final =
     let s : Table = final.0 in let kept = final.1.0 in let at = final.1.1 in
     let plan : Plan = plan_of start in let x : Shown = kept.0 in let h = kept.1 in
     let f : Fits plan x id v = h.seats id v at in let mine = f.writes loud in
-    let idle : (j : ℕ) (u : View) → j ≢ id → get_elem? s.views j ≡ some u → u.draws ≡ [] = λ j u apart e.
-    let two : u.parts + v.parts ≤ sum_by (λ v. v.parts) s.views = two_of (λ (v : View). v.parts) s.views id j v u spent refl at e apart in
+    let idle : (j : ℕ) (u : View) → j ≢ id → get_elem? s.views j ≡ some u → u.draws ≡ [] =
+    λ j u apart e.
+    let two : u.parts + v.parts ≤ sum_by (λ v. v.parts) s.views =
+    two_of (λ (v : View). v.parts) s.views id j v u spent refl at e apart in
     let all = h.parts in (h.seats j u e).idle (omega arith) in
     let count : sum_by (λ v. length v.draws) s.views ≡ length v.draws =
-    alone (λ (u : View). length u.draws) s.views id v at (λ j u apart e. ap length (idle j u apart e)) in
-    ends_at plan v.entries v.draws (v.sights ++ v.told) x.drawn (sym h.count ∙ count) (most_drawn plan s x h)
+    alone (λ (u : View). length u.draws) s.views id v at
+    (λ j u apart e. ap length (idle j u apart e)) in
+    ends_at plan v.entries v.draws (v.sights ++ v.told) x.drawn (sym h.count ∙ count)
+    (most_drawn plan s x h)
     (subst (λ (l : List Entry). IsListed plan l x.drawn) (sym mine.entries) h.listed)
     (subst (λ (l : List Entry). All (IsGood plan l x.drawn) v.draws) (sym mine.entries) f.draws)
-    (λ number. sym (alone (λ (u : View). times number u.draws) s.views id v at (λ j u apart e. ap (times number) (idle j u apart e))) ∙ h.once number)
-    (subst (λ (l : List Entry). All (IsSight (length l) x.drawn) (v.sights ++ v.told)) (sym mine.entries)
+    (λ number. sym
+    (alone (λ (u : View). times number u.draws) s.views id v at
+    (λ j u apart e. ap (times number) (idle j u apart e))) ∙ h.once number)
+    (subst (λ (l : List Entry). All (IsSight (length l) x.drawn) (v.sights ++ v.told))
+    (sym mine.entries)
     (All-append (IsSight (length x.list) x.drawn) v.sights v.told f.sights f.told))

@@ -24,12 +24,15 @@ pub channels_few : (d : DeviceParts) (o : ℕ) → IsDevice d → o < length d.o
 channels_few d o device there =
     ⊎_elim
     (λ t.
-    let row : AreChannels t.0.labels = subst (λ (x : Output). AreChannels x.labels) t.3 (device.streams.outputs o t.0 there) in
-    subst (λ (r : Option Output). Few (option_map_or (λ (x : Output). length x.labels) r 0)) (sym t.2) row)
+    let row : AreChannels t.0.labels =
+    subst (λ (x : Output). AreChannels x.labels) t.3 (device.streams.outputs o t.0 there) in
+    subst (λ (r : Option Output). Few (option_map_or (λ (x : Output). length x.labels) r 0))
+    (sym t.2) row)
     (λ t. absurd (omega (arith, t.0)))
     (slice_get_cases d.outputs o).1
 
-pub entry_short : (plan : Plan) (e : Entry) → IsSound plan → IsFit plan e → length (entry_words e) ≤ stride
+pub entry_short : (plan : Plan) (e : Entry) → IsSound plan → IsFit plan e
+    → length (entry_words e) ≤ stride
 entry_short plan e sound fit =
     let few = channels_few plan.setup.device e.output sound.setup.device fit.ok.there in
     let long = fit.ok.long in let m = length-map e.row cell_word in omega (arith, few.1)

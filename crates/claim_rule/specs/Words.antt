@@ -28,6 +28,11 @@ abbrev pub cell_word : Cell → ℕ
 cell_word Unrouted = 0
 cell_word (From input channel) = (input * 2 ^ 8 + channel) + 1
 
+-- a cell whose numbers have 8 bits, so that a word can spell it
+abbrev pub IsByteCell : Cell → Type 0
+IsByteCell Unrouted = Unit {0}
+IsByteCell (From input channel) = (input < 2 ^ 8) × (channel < 2 ^ 8)
+
 -- an entry: its tick above 6 bits of its output, the claims at its publication above 8 bits that
 -- are left free, and its cells
 abbrev pub entry_words : Entry → List ℕ
