@@ -1,5 +1,6 @@
 -- The base rows of a setup, as entries from the first tick on: a table may begin with them.
-use Rattle.std.proofs.Common.{◌≡◌, ℕ, ◌+◌, ◌<◌, ◌≤◌, true, false, List, [], ◌∷◌, ◌++◌, length, get_or, refl, sym, ap, ◌∙◌, arith, length-append}
+use Rattle.std.proofs.Common.{◌≡◌, ℕ, ◌+◌, ◌<◌, ◌≤◌, true, false, List, [], ◌∷◌, ◌++◌, length}
+use Rattle.std.proofs.Common.{get_or, refl, sym, ap, ◌∙◌, arith, length-append}
 use Rattle.std.specs.Prelude.{Option, Some, None, IsSomeAnd}
 use Rattle.std.specs.List.{All}
 use Rattle.std.proofs.lemmas.Bool.{true≢false}
@@ -38,35 +39,44 @@ first_none s = record {
   rows = All-nil (IsEntryOk s.device);
 }
 
-pub first_more : (s : SetupParts) (es : List Entry) (n : ℕ) (e : Entry) → AreFirst s es n → e.output ≡ n → e.tick ≡ s.device.base → e.at ≡ 0 → IsEntryOk s.device e
+pub first_more : (s : SetupParts) (es : List Entry) (n : ℕ) (e : Entry) → AreFirst s es n
+    → e.output ≡ n → e.tick ≡ s.device.base → e.at ≡ 0 → IsEntryOk s.device e
     → AreFirst s (es ++ e ∷ []) (n + 1)
 first_more s es n e f output tick at ok =
     let l = f.long in let grown = length-append es (e ∷ []) in record {
       long = omega arith;
       outputs = λ k d lt. dite (ℕ_discrete k n)
-          (λ same. ap (λ (j : ℕ). (get_or (es ++ e ∷ []) j d).output) same ∙ (ap (λ (x : Entry). x.output) (get_or_at es e [] d n l) ∙ (output ∙ sym same)))
-          (λ other. ap (λ (x : Entry). x.output) (get_or_append_left es (e ∷ []) d k (omega arith)) ∙ f.outputs k d (omega arith));
+          (λ same. ap (λ (j : ℕ). (get_or (es ++ e ∷ []) j d).output) same
+          ∙ (ap (λ (x : Entry). x.output) (get_or_at es e [] d n l) ∙ (output ∙ sym same)))
+          (λ other. ap (λ (x : Entry). x.output) (get_or_append_left es (e ∷ []) d k (omega arith))
+          ∙ f.outputs k d (omega arith));
       ticks = All-push (λ (x : Entry). x.tick ≡ s.device.base) es e f.ticks tick;
       ats = All-push (λ (x : Entry). x.at ≡ 0) es e f.ats at;
       rows = All-push (IsEntryOk s.device) es e f.rows ok;
     }
 
-found_row : (d : DeviceParts) (es : List Entry) (o t : ℕ) (r : Option (List Cell)) → All (IsEntryOk d) es → selected es o t ≡ r
+found_row : (d : DeviceParts) (es : List Entry) (o t : ℕ) (r : Option (List Cell))
+    → All (IsEntryOk d) es → selected es o t ≡ r
     → (selected es o t ≡ None → ⊥) → IsSomeAnd r (λ row. length row ≡ channels_of_output d o)
 found_row d es o t (Some row) ok is there = (selected_row d es o t row ok is).long
 found_row d es o t None ok is there = absurd (there is)
 
-pub first_base : (s : SetupParts) (es : List Entry) → IsSetup s → AreFirst s es (length s.device.outputs) → IsBase s 0 es
+pub first_base : (s : SetupParts) (es : List Entry) → IsSetup s
+    → AreFirst s es (length s.device.outputs) → IsBase s 0 es
 first_base s es setup f =
-    let few = setup.device.bounds.few_outputs in let long = f.long in let base = base_few s.device setup.device in record {
+    let few = setup.device.bounds.few_outputs in let long = f.long in
+    let base = base_few s.device setup.device in record {
       few = omega arith;
       rows = f.rows;
-      ticks = All-weaker (λ (e : Entry). e.tick ≡ s.device.base) (λ (e : Entry). e.tick < TICKS_LIMIT) (λ (e : Entry) (t : e.tick ≡ s.device.base). omega arith) es f.ticks;
+      ticks = All-weaker (λ (e : Entry). e.tick ≡ s.device.base)
+          (λ (e : Entry). e.tick < TICKS_LIMIT)
+          (λ (e : Entry) (t : e.tick ≡ s.device.base). omega arith) es f.ticks;
       rises = rises_append 0 0 [] es (omega arith) f.ats;
       covers = λ o t there since. found_row s.device es o t (selected es o t) f.rows refl
           (λ missed.
           let e : Entry = record { output = 0; tick = 0; row = []; at = 0 } in
-          let fails : rules due o t (get_or es o e) ≡ false = selected-missed due es o t missed o e (omega arith) in
+          let fails : rules due o t (get_or es o e) ≡ false =
+          selected-missed due es o t missed o e (omega arith) in
           let output : (get_or es o e).output ≡ o = f.outputs o e there in
           let tick : (get_or es o e).tick ≡ s.device.base = f.ticks o e (omega arith) in
           let begun : (get_or es o e).tick ≤ t = omega arith in

@@ -1,6 +1,9 @@
 -- What a worker's pass keeps as it draws and reads.
-use Rattle.std.proofs.Common.{◌≡◌, ℕ, ◌+◌, ◌-◌, ◌/◌, ◌<◌, ◌≤◌, cond, Bool, true, false, List, [], ◌∷◌, ◌++◌, map, length, get_or, set, refl, sym, ap, ◌∙◌, subst, arith, eq-eqb, get_or-set_same}
-use Rattle.std.specs.Prelude.{Option, Some, None, IsSomeAnd, MatchBool, filter, slice_get, vec_capacity}
+use Rattle.std.proofs.Common.{◌≡◌, ℕ, ◌+◌, ◌-◌, ◌/◌, ◌<◌, ◌≤◌, cond, Bool, true, false, List, []}
+use Rattle.std.proofs.Common.{◌∷◌, ◌++◌, map, length, get_or, set, refl, sym, ap, ◌∙◌, subst, arith}
+use Rattle.std.proofs.Common.{eq-eqb, get_or-set_same}
+use Rattle.std.specs.Prelude.{Option, Some, None, IsSomeAnd, MatchBool, filter, slice_get}
+use Rattle.std.specs.Prelude.{vec_capacity}
 use Rattle.std.specs.List.{AllZip, sum_by}
 use Rattle.std.proofs.lemmas.Bool.{lt-ltb}
 use Rattle.std.proofs.lemmas.Bool.Decides.{nat_tests}
@@ -26,29 +29,38 @@ use Rattle.claim_word.specs.declared.memory.Head.{Head}
 use Rattle.claim_word.specs.declared.memory.Memory.{Memory}
 use Rattle.claim_word.specs.declared.span.Span.{Span}
 use Rattle.claim_word.specs.declared.worker.Claim.{Claim}
-use Rattle.claim_word.specs.Claims.{claims_of, is_packet, number_of, row_words, head_of, HasRow, IsClaim, IsFrugal, IsLast, IsLastDraw, IsMemory, IsWorker, read_on}
+use Rattle.claim_word.specs.Claims.{claims_of, is_packet, number_of, row_words, head_of, HasRow}
+use Rattle.claim_word.specs.Claims.{IsClaim, IsFrugal, IsLast, IsLastDraw, IsMemory, IsWorker}
+use Rattle.claim_word.specs.Claims.{read_on}
 use Rattle.claim_word.proofs.Remembering.{heads_few, rows_set, rows_there}
 
 -- ---- the last draw
 
-last_pushed : (ds : List Draw) (d e : Draw) → slice_get (ds ++ d ∷ []) (length (ds ++ d ∷ []) - 1) ≡ Some e → d ≡ e
+last_pushed : (ds : List Draw) (d e : Draw)
+    → slice_get (ds ++ d ∷ []) (length (ds ++ d ∷ []) - 1) ≡ Some e → d ≡ e
 last_pushed ds d e is =
     let l = length_push ds d in let at : length (ds ++ d ∷ []) - 1 ≡ length ds = omega arith in
     sym (get_or_at ds d [] d (length ds) refl)
-    ∙ (ap (λ (k : ℕ). get_or (ds ++ d ∷ []) k d) (sym at) ∙ get_or_from_slice_get (ds ++ d ∷ []) (length (ds ++ d ∷ []) - 1) e d is)
+    ∙ (ap (λ (k : ℕ). get_or (ds ++ d ∷ []) k d) (sym at)
+    ∙ get_or_from_slice_get (ds ++ d ∷ []) (length (ds ++ d ∷ []) - 1) e d is)
 
-pub last_drawn : (v : View) (number : ℕ) (found : List Entry) → IsLastDraw (drew v number found) number
+pub last_drawn : (v : View) (number : ℕ) (found : List Entry)
+    → IsLastDraw (drew v number found) number
 last_drawn v number found =
     let d : Draw = draw number found in let ds : List Draw = v.draws in
     let l = length_push ds d in let at : length ds ≡ length (ds ++ d ∷ []) - 1 = omega arith in
     subst (λ (k : ℕ). slice_get (ds ++ d ∷ []) k ≡ Some d) at
-    (slice_get-get_or (ds ++ d ∷ []) (length ds) d (omega arith) ∙ ap Some (get_or_at ds d [] d (length ds) refl))
+    (slice_get-get_or (ds ++ d ∷ []) (length ds) d (omega arith)
+    ∙ ap Some (get_or_at ds d [] d (length ds) refl))
 
-pub only_last : (v : View) (number : ℕ) (found : List Entry) (n : ℕ) → IsLastDraw (drew v number found) n → n ≡ number
-only_last v number found n last = sym (ap (λ (d : Draw). d.number) (last_pushed v.draws (draw number found) (draw n found) last))
+pub only_last : (v : View) (number : ℕ) (found : List Entry) (n : ℕ)
+    → IsLastDraw (drew v number found) n → n ≡ number
+only_last v number found n last =
+    sym (ap (λ (d : Draw). d.number) (last_pushed v.draws (draw number found) (draw n found) last))
 
 -- the claim of the number drawn is that of the last draw
-pub last_claimed : (v : View) (number : ℕ) (found : List Entry) (c : Claim) → IsClaim v.plan number found c → IsLast (drew v number found) c
+pub last_claimed : (v : View) (number : ℕ) (found : List Entry) (c : Claim)
+    → IsClaim v.plan number found c → IsLast (drew v number found) c
 last_claimed v number found c it =
     let same : number ≡ number_of v.plan c = let k = it.k in omega arith in record {
       draw = subst (IsLastDraw (drew v number found)) same (last_drawn v number found);
@@ -59,33 +71,43 @@ last_claimed v number found c it =
 pub one_last : (v : View) (n m : ℕ) → IsLastDraw v n → IsLastDraw v m → n ≡ m
 one_last v n m a b =
     let d : Draw = draw n v.entries in
-    ap (λ (x : Draw). x.number) (sym (get_or_from_slice_get v.draws (length v.draws - 1) d d a) ∙ get_or_from_slice_get v.draws (length v.draws - 1) (draw m v.entries) d b)
+    ap (λ (x : Draw). x.number) (sym (get_or_from_slice_get v.draws (length v.draws - 1) d d a)
+    ∙ get_or_from_slice_get v.draws (length v.draws - 1) (draw m v.entries) d b)
 
 -- ---- claims
 
-packet_is : (plan : Plan) (number : ℕ) (found : List Entry) → number < plan.packets → is_packet plan (draw number found) ≡ true
+packet_is : (plan : Plan) (number : ℕ) (found : List Entry) → number < plan.packets
+    → is_packet plan (draw number found) ≡ true
 packet_is plan number found early = lt-ltb number plan.packets early
 
-packet_not : (plan : Plan) (number : ℕ) (found : List Entry) → plan.packets ≤ number → is_packet plan (draw number found) ≡ false
+packet_not : (plan : Plan) (number : ℕ) (found : List Entry) → plan.packets ≤ number
+    → is_packet plan (draw number found) ≡ false
 packet_not plan number found over = grind (arith, nat_tests)
 
-pub claims_packet : (plan : Plan) (ds : List Draw) (number : ℕ) (found : List Entry) → number < plan.packets
+pub claims_packet : (plan : Plan) (ds : List Draw) (number : ℕ) (found : List Entry)
+    → number < plan.packets
     → claims_of plan (ds ++ draw number found ∷ []) ≡ claims_of plan ds ++ (plan.from + number) ∷ []
 claims_packet plan ds number found early =
     let f : Draw → ℕ = λ d. plan.from + d.number in
-    let one : filter (is_packet plan) (draw number found ∷ []) ≡ draw number found ∷ [] = rw (packet_is plan number found early) refl in
-    ap (map f) (filter-append (is_packet plan) ds (draw number found ∷ []) ∙ ap (λ (l : List Draw). filter (is_packet plan) ds ++ l) one)
+    let one : filter (is_packet plan) (draw number found ∷ []) ≡ draw number found ∷ [] =
+    rw (packet_is plan number found early) refl in
+    ap (map f) (filter-append (is_packet plan) ds (draw number found ∷ [])
+    ∙ ap (λ (l : List Draw). filter (is_packet plan) ds ++ l) one)
     ∙ map-append f (filter (is_packet plan) ds) (draw number found ∷ [])
 
-pub claims_over : (plan : Plan) (ds : List Draw) (number : ℕ) (found : List Entry) → plan.packets ≤ number
+pub claims_over : (plan : Plan) (ds : List Draw) (number : ℕ) (found : List Entry)
+    → plan.packets ≤ number
     → claims_of plan (ds ++ draw number found ∷ []) ≡ claims_of plan ds
 claims_over plan ds number found over =
-    let none_left : filter (is_packet plan) (draw number found ∷ []) ≡ [] = rw (packet_not plan number found over) refl in
+    let none_left : filter (is_packet plan) (draw number found ∷ []) ≡ [] =
+    rw (packet_not plan number found over) refl in
     ap (map (λ d. plan.from + d.number))
     (filter-append (is_packet plan) ds (draw number found ∷ [])
-    ∙ (ap (λ (l : List Draw). filter (is_packet plan) ds ++ l) none_left ∙ append-nil (filter (is_packet plan) ds)))
+    ∙ (ap (λ (l : List Draw). filter (is_packet plan) ds ++ l) none_left
+    ∙ append-nil (filter (is_packet plan) ds)))
 
-few_by : (b : Bool) (p : Draw → Bool) (d : Draw) (ds : List Draw) → length (filter p ds) ≤ length ds → length (cond b (d ∷ filter p ds) (filter p ds)) ≤ length (d ∷ ds)
+few_by : (b : Bool) (p : Draw → Bool) (d : Draw) (ds : List Draw) → length (filter p ds) ≤ length ds
+    → length (cond b (d ∷ filter p ds) (filter p ds)) ≤ length (d ∷ ds)
 few_by true p d ds few = omega arith
 few_by false p d ds few = omega arith
 
@@ -102,24 +124,31 @@ claims_few plan ds =
 -- ---- loads
 
 words_of_packet : (plan : Plan) (number : ℕ) (found : List Entry) → number < plan.packets
-    → row_words plan (draw number found) ≡ channels_of_output plan.setup.device (output_of plan number)
+    → row_words plan (draw number found) ≡ channels_of_output plan.setup.device
+    (output_of plan number)
 words_of_packet plan number found early = rw (packet_is plan number found early) refl
 
 pub frugal_of : (v : View) (m : Memory) → IsMemory v m → IsFrugal v
-frugal_of v m memory = let l = memory.loads in let f = heads_few v.entries m.heads.items memory.heads in omega arith
+frugal_of v m memory = let l = memory.loads in
+    let f = heads_few v.entries m.heads.items memory.heads in omega arith
 
 -- ---- what is remembered after a draw
 
-heads_found : (v : View) (m : Memory) (found : List Entry) → IsMemory v m → Begins v.entries found → Begins m.heads.items (map head_of found)
+heads_found : (v : View) (m : Memory) (found : List Entry) → IsMemory v m → Begins v.entries found
+    → Begins m.heads.items (map head_of found)
 heads_found v m found memory more =
-    let grown : map head_of found ≡ map head_of v.entries ++ map head_of more.0 = ap (map head_of) more.1 ∙ map-append head_of v.entries more.0 in
-    subst (Begins m.heads.items) (sym grown) (begins_more m.heads.items (map head_of v.entries) (map head_of more.0) memory.heads)
+    let grown : map head_of found ≡ map head_of v.entries ++ map head_of more.0 =
+    ap (map head_of) more.1 ∙ map-append head_of v.entries more.0 in
+    subst (Begins m.heads.items) (sym grown)
+    (begins_more m.heads.items (map head_of v.entries) (map head_of more.0) memory.heads)
 
-pub memory_packet : (v : View) (m : Memory) (number : ℕ) (found : List Entry) → IsMemory v m → Begins v.entries found → number < v.plan.packets
+pub memory_packet : (v : View) (m : Memory) (number : ℕ) (found : List Entry) → IsMemory v m
+    → Begins v.entries found → number < v.plan.packets
     → IsMemory (drew v number found) (record m { ready = false })
 memory_packet v m number found memory more early =
     let d : Draw = draw number found in
-    let sum : sum_by (row_words v.plan) (v.draws ++ d ∷ []) ≡ sum_by (row_words v.plan) v.draws + row_words v.plan d = sum_by_push (row_words v.plan) v.draws d in
+    let sum : sum_by (row_words v.plan) (v.draws ++ d ∷ []) ≡ sum_by (row_words v.plan)
+    v.draws + row_words v.plan d = sum_by_push (row_words v.plan) v.draws d in
     let l = memory.loads in record {
       room = memory.room;
       heads = heads_found v m found memory more;
@@ -128,15 +157,18 @@ memory_packet v m number found memory more early =
       last = λ n last _.
           let words = words_of_packet v.plan number found early in
           subst
-          (λ (k : ℕ). v.loads + channels_of_output v.plan.setup.device (output_of v.plan k) ≤ length m.heads.items + sum_by (row_words v.plan) (v.draws ++ d ∷ []))
+          (λ (k : ℕ). v.loads + channels_of_output v.plan.setup.device (output_of v.plan k) ≤ length
+          m.heads.items + sum_by (row_words v.plan) (v.draws ++ d ∷ []))
           (sym (only_last v number found n last)) (omega arith);
     }
 
-pub memory_over : (v : View) (m : Memory) (number : ℕ) (found : List Entry) → IsMemory v m → Begins v.entries found → v.plan.packets ≤ number
+pub memory_over : (v : View) (m : Memory) (number : ℕ) (found : List Entry) → IsMemory v m
+    → Begins v.entries found → v.plan.packets ≤ number
     → IsMemory (drew v number found) m
 memory_over v m number found memory more over =
     let d : Draw = draw number found in
-    let sum : sum_by (row_words v.plan) (v.draws ++ d ∷ []) ≡ sum_by (row_words v.plan) v.draws + row_words v.plan d = sum_by_push (row_words v.plan) v.draws d in
+    let sum : sum_by (row_words v.plan) (v.draws ++ d ∷ []) ≡ sum_by (row_words v.plan)
+    v.draws + row_words v.plan d = sum_by_push (row_words v.plan) v.draws d in
     let l = memory.loads in record {
       room = memory.room;
       heads = heads_found v m found memory more;
@@ -147,17 +179,22 @@ memory_over v m number found memory more over =
 
 -- ---- the pass after a draw
 
-late_packet : (plan : Plan) (number : ℕ) (found : List Entry) → number < plan.packets → late plan (draw number found) ≡ 0
+late_packet : (plan : Plan) (number : ℕ) (found : List Entry) → number < plan.packets
+    → late plan (draw number found) ≡ 0
 late_packet plan number found early = grind (arith, nat_tests)
 
 is_here : (number : ℕ) (found : List Entry) → is_at number (draw number found) ≡ 1
 is_here number found = ap (λ (b : Bool). cond {A = ℕ} b 1 0) (eq-eqb number number refl)
 
-once_there : (ds : List Draw) (number : ℕ) (found : List Entry) → 0 < times number (ds ++ draw number found ∷ [])
-once_there ds number found = let s = sum_by_push (is_at number) ds (draw number found) in let one = is_here number found in omega (arith, s, one)
+once_there : (ds : List Draw) (number : ℕ) (found : List Entry)
+    → 0 < times number (ds ++ draw number found ∷ [])
+once_there ds number found = let s = sum_by_push (is_at number) ds (draw number found) in
+    let one = is_here number found in omega (arith, s, one)
 
-pub worker_packet : (v : View) (span : Span) (claims : List ℕ) (room number word : ℕ) (found : List Entry) → IsWorker v span claims room false
-    → IsFound v.plan found word → number < v.plan.packets → IsWorker (drew v number found) span (claims ++ (v.plan.from + number) ∷ []) room false
+pub worker_packet : (v : View) (span : Span) (claims : List ℕ) (room number word : ℕ)
+    (found : List Entry) → IsWorker v span claims room false
+    → IsFound v.plan found word → number < v.plan.packets
+    → IsWorker (drew v number found) span (claims ++ (v.plan.from + number) ∷ []) room false
 worker_packet v span claims room number word found p it early = record {
   sound = p.sound;
   span_is = p.span_is;
@@ -165,18 +202,22 @@ worker_packet v span claims room number word found p it early = record {
   quiet = p.quiet;
   part = p.part;
   early = λ _.
-      let s : overs v.plan (drew v number found) ≡ overs v.plan v + late v.plan (draw number found) = sum_by_push (late v.plan) v.draws (draw number found) in
+      let s : overs v.plan (drew v number found) ≡ overs v.plan v + late v.plan (draw number found)
+      = sum_by_push (late v.plan) v.draws (draw number found) in
       let a = p.early refl in let b = late_packet v.plan number found early in omega arith;
   over = λ bad. absurd cc;
-  claims_are = ap (λ (l : List ℕ). l ++ (v.plan.from + number) ∷ []) p.claims_are ∙ sym (claims_packet v.plan v.draws number found early);
+  claims_are = ap (λ (l : List ℕ). l ++ (v.plan.from + number) ∷ []) p.claims_are
+      ∙ sym (claims_packet v.plan v.draws number found early);
   room_is = p.room_is;
   few = it.room;
   fits = it.fits;
   covers = λ _. it.covers;
 }
 
-pub worker_over : (v : View) (span : Span) (claims : List ℕ) (room number word : ℕ) (found : List Entry) → IsWorker v span claims room false
-    → IsFound v.plan found word → v.plan.packets ≤ number → IsWorker (drew v number found) span claims room true
+pub worker_over : (v : View) (span : Span) (claims : List ℕ) (room number word : ℕ)
+    (found : List Entry) → IsWorker v span claims room false
+    → IsFound v.plan found word → v.plan.packets ≤ number
+    → IsWorker (drew v number found) span claims room true
 worker_over v span claims room number word found p it over = record {
   sound = p.sound;
   span_is = p.span_is;
@@ -193,7 +234,8 @@ worker_over v span claims room number word found p it over = record {
 }
 
 -- loads change nothing that the pass keeps
-pub worker_read : (v : View) (span : Span) (claims : List ℕ) (room n : ℕ) (ended : Bool) → IsWorker v span claims room ended → IsWorker (read_on v n) span claims room ended
+pub worker_read : (v : View) (span : Span) (claims : List ℕ) (room n : ℕ) (ended : Bool)
+    → IsWorker v span claims room ended → IsWorker (read_on v n) span claims room ended
 worker_read v span claims room n ended p = record {
   sound = p.sound;
   span_is = p.span_is;
@@ -210,8 +252,11 @@ worker_read v span claims room n ended p = record {
 }
 
 -- a claim's output is there
-pub output_there : (plan : Plan) (number : ℕ) → IsSound plan → output_of plan number < outputs_of plan
-output_there plan number sound = mod_below (plan.from + number) (outputs_of plan) (let b = sound.setup.device.bounds.some_output in omega arith)
+pub output_there : (plan : Plan) (number : ℕ) → IsSound plan
+    → output_of plan number < outputs_of plan
+output_there plan number sound =
+    mod_below (plan.from + number) (outputs_of plan)
+    (let b = sound.setup.device.bounds.some_output in omega arith)
 
 -- ---- what is remembered once the row of the last claim is read
 
@@ -230,39 +275,55 @@ pub record IsReadRow (v : View) (m x : Memory) (number : ℕ) (row : List Cell) 
   pub row_long : length row ≡ channels_of_output v.plan.setup.device (output_of v.plan number)
   pub row_is : selected v.entries (output_of v.plan number) (tick_of v.plan number) ≡ Some row
 
-pub memory_found : (v : View) (m x : Memory) (number n : ℕ) (row : List Cell) → IsSound v.plan → IsMemory v m → m.ready ≡ false → IsLastDraw v number
-    → number < v.plan.packets → IsReadRow v m x number row → n ≡ (length v.entries - length m.heads.items) + length row → IsMemory (read_on v n) x
+pub memory_found : (v : View) (m x : Memory) (number n : ℕ) (row : List Cell) → IsSound v.plan
+    → IsMemory v m → m.ready ≡ false → IsLastDraw v number
+    → number < v.plan.packets → IsReadRow v m x number row
+    → n ≡ (length v.entries - length m.heads.items) + length row → IsMemory (read_on v n) x
 memory_found v m x number n row sound memory unread last early it count =
     let o : ℕ = output_of v.plan number in
-    let there = rows_there v.plan.setup.device m.rows.items o memory.rows (output_there v.plan number sound) in
+    let there = rows_there v.plan.setup.device m.rows.items o memory.rows
+    (output_there v.plan number sound) in
     let few = heads_few v.entries m.heads.items memory.heads in
-    let left = match_ready (HasRow v m.rows.items number) _ m.ready unread (memory.last number last early) in
-    let all : length x.heads.items ≡ length v.entries = ap length it.heads ∙ length-map v.entries head_of in
+    let left = match_ready (HasRow v m.rows.items number) _ m.ready unread
+    (memory.last number last early) in
+    let all : length x.heads.items ≡ length v.entries = ap length it.heads
+    ∙ length-map v.entries head_of in
     let l = it.row_long in
-    let here : get_or x.rows.items o [] ≡ row = ap (λ (rs : List (List Cell)). get_or rs o []) it.rows ∙ get_or-set_same m.rows.items o row [] there.0 in record {
+    let here : get_or x.rows.items o [] ≡ row =
+    ap (λ (rs : List (List Cell)). get_or rs o []) it.rows
+    ∙ get_or-set_same m.rows.items o row [] there.0 in record {
       room = it.room;
-      heads = subst (λ (hs : List Head). Begins hs (map head_of v.entries)) (sym it.heads) (begins_same (map head_of v.entries));
+      heads = subst (λ (hs : List Head). Begins hs (map head_of v.entries)) (sym it.heads)
+          (begins_same (map head_of v.entries));
       rows = subst (AllZip HasCells v.plan.setup.device.outputs) (sym it.rows)
-          (rows_set v.plan.setup.device.outputs m.rows.items o row memory.rows (it.row_long ∙ sym there.1));
+          (rows_set v.plan.setup.device.outputs m.rows.items o row memory.rows
+          (it.row_long ∙ sym there.1));
       loads = omega arith;
       last = λ k again _.
           let same : number ≡ k = one_last v number k last again in
-          match_read _ _ x.ready it.ready (subst (λ (j : ℕ). HasRow (read_on v n) x.rows.items j) same (it.row_is ∙ ap Some (sym here)));
+          match_read _ _ x.ready it.ready
+          (subst (λ (j : ℕ). HasRow (read_on v n) x.rows.items j) same
+          (it.row_is ∙ ap Some (sym here)));
     }
 
 -- ---- each claim has a row
 
 div_mono : (a b n : ℕ) → 0 < n → a ≤ b → a / n ≤ b / n
-div_mono a b n some le = let d = div-add-mod' a n in let q : ℕ = a / n in le-div q b n some (omega arith)
+div_mono a b n some le = let d = div-add-mod' a n in let q : ℕ = a / n in
+    le-div q b n some (omega arith)
 
 no_none : (P : List Cell → Type 0) (r : Option (List Cell)) → IsSomeAnd r P → r ≡ None → ⊥
 no_none P (Some row) there e = absurd cc
 no_none P None there e = there
 
-pub covered : (plan : Plan) (entries : List Entry) (number : ℕ) → IsSound plan → HasRowsFrom plan.setup.device entries (tick_of plan 0)
+pub covered : (plan : Plan) (entries : List Entry) (number : ℕ) → IsSound plan
+    → HasRowsFrom plan.setup.device entries (tick_of plan 0)
     → selected entries (output_of plan number) (tick_of plan number) ≡ None → ⊥
 covered plan entries number sound covers missed =
-    let some_out : 0 < outputs_of plan = (let b = sound.setup.device.bounds.some_output in omega arith) in
-    let up = div_mono (plan.from + 0) (plan.from + number) (outputs_of plan) some_out (omega arith) in
+    let some_out : 0 < outputs_of plan = (let b = sound.setup.device.bounds.some_output in
+    omega arith) in
+    let up = div_mono (plan.from + 0) (plan.from + number) (outputs_of plan) some_out (omega arith)
+    in
     no_none _ (selected entries (output_of plan number) (tick_of plan number))
-    (covers (output_of plan number) (tick_of plan number) (output_there plan number sound) (omega arith)) missed
+    (covers (output_of plan number) (tick_of plan number) (output_there plan number sound)
+    (omega arith)) missed

@@ -1,5 +1,7 @@
 -- What a claim says, and what a worker's pass keeps. (This project's own.)
-use Rattle.std.specs.Prelude.{◌≡◌, ℕ, ◌+◌, ◌-◌, ◌*◌, ◌<◌, ◌≤◌, Bool, true, false, nat_lt, cond, not, ◌&&◌, eqb, List, [], map, filter, length, Some, slice_get, slice_index_or, MatchBool, vec_capacity}
+use Rattle.std.specs.Prelude.{◌≡◌, ℕ, ◌+◌, ◌-◌, ◌*◌, ◌<◌, ◌≤◌, Bool, true, false, nat_lt, cond, not}
+use Rattle.std.specs.Prelude.{◌&&◌, eqb, List, [], map, filter, length, Some, slice_get}
+use Rattle.std.specs.Prelude.{slice_index_or, MatchBool, vec_capacity}
 use Rattle.std.specs.List.{All, AllZip, sum_by}
 use Rattle.map_entry.specs.declared.cell.Cell.{Cell}
 use Rattle.map_entry.specs.declared.entry.Entry.{Entry}
@@ -34,7 +36,8 @@ pub record IsClaim (plan : Plan) (number : ℕ) (found : List Entry) (c : Claim)
 abbrev pub number_of : Plan → Claim → ℕ
 number_of plan c = c.k - plan.from
 
--- the pass drew a number, while the entries that it knows now were published, which begin with those that it had found before
+-- the pass drew a number, while the entries that it knows now were published, which begin with
+-- those that it had found before
 pub record IsDrawn (p q : PassFace) (number : ℕ) : Type 0 where
   pub was : p.ended ≡ false
   pub id : q.id ≡ p.id
@@ -84,9 +87,11 @@ claims_of plan draws = map (λ d. plan.from + d.number) (filter (is_packet plan)
 
 -- how many words the row of a draw has: one for each channel of its output, where it is a packet's
 abbrev pub row_words : Plan → Draw → ℕ
-row_words plan d = cond (is_packet plan d) (channels_of_output plan.setup.device (output_of plan d.number)) 0
+row_words plan d =
+    cond (is_packet plan d) (channels_of_output plan.setup.device (output_of plan d.number)) 0
 
--- over its life a pass loads at most the head words of each entry that its last draw found, and one word for each channel of each claim
+-- over its life a pass loads at most the head words of each entry that its last draw found, and one
+-- word for each channel of each claim
 abbrev pub IsFrugal : View → Type 0
 IsFrugal v = v.loads ≤ head_words * length v.entries + sum_by (row_words v.plan) v.draws
 
@@ -107,10 +112,11 @@ head_rules output tick head = eqb head.output output && not (nat_lt tick head.ti
 -- the row that rules the tick of a draw, over the entries of the view
 abbrev pub HasRow : View → List (List Cell) → ℕ → Type 0
 HasRow v rows number =
-    selected v.entries (output_of v.plan number) (tick_of v.plan number) ≡ Some (slice_index_or rows (output_of v.plan number) [])
+    selected v.entries (output_of v.plan number) (tick_of v.plan number) ≡ Some
+    (slice_index_or rows (output_of v.plan number) [])
 
--- The heads of entries in front; a row for each output; and the row that rules the last claim, or as many loads are left as it has
--- channels.
+-- The heads of entries in front; a row for each output; and the row that rules the last claim, or
+-- as many loads are left as it has channels.
 pub record IsMemory (v : View) (m : Memory) : Type 0 where
   pub room : places ≤ vec_capacity m.heads
   pub heads : Begins m.heads.items (map head_of v.entries)
@@ -118,20 +124,23 @@ pub record IsMemory (v : View) (m : Memory) : Type 0 where
   pub loads : v.loads ≤ length m.heads.items + sum_by (row_words v.plan) v.draws
   pub last : (number : ℕ) → IsLastDraw v number → number < v.plan.packets
       → MatchBool m.ready (HasRow v m.rows.items number)
-      (v.loads + channels_of_output v.plan.setup.device (output_of v.plan number) ≤ length m.heads.items + sum_by (row_words v.plan) v.draws)
+      (v.loads + channels_of_output v.plan.setup.device (output_of v.plan number) ≤ length
+      m.heads.items + sum_by (row_words v.plan) v.draws)
 
--- What a worker's pass keeps: it may draw past the packets once; its claims are those of its draws; and the entries that its last draw
--- found have room, fit the plan and leave no output without a row.
-pub record IsWorker (v : View) (span : Span) (claims : List ℕ) (room : ℕ) (ended : Bool) : Type 0 where
-  pub sound : IsSound v.plan
-  pub span_is : IsSpan v.plan span
-  pub live : v.live ≡ true
-  pub quiet : v.publishes ≡ false
-  pub part : v.parts ≡ 1
-  pub early : ended ≡ false → overs v.plan v ≡ 0
-  pub over : ended ≡ true → HasOver v.plan.packets v.draws
-  pub claims_are : claims ≡ claims_of v.plan v.draws
-  pub room_is : v.plan.packets ≤ room
-  pub few : length v.entries ≤ places
-  pub fits : All (IsFit v.plan) v.entries
-  pub covers : 0 < length v.draws → HasRowsFrom v.plan.setup.device v.entries (tick_of v.plan 0)
+-- What a worker's pass keeps: it may draw past the packets once; its claims are those of its draws;
+-- and the entries that its last draw found have room, fit the plan and leave no output without a
+-- row.
+pub record IsWorker (v : View) (span : Span) (claims : List ℕ) (room : ℕ) (ended : Bool) : Type 0
+  where
+    pub sound : IsSound v.plan
+    pub span_is : IsSpan v.plan span
+    pub live : v.live ≡ true
+    pub quiet : v.publishes ≡ false
+    pub part : v.parts ≡ 1
+    pub early : ended ≡ false → overs v.plan v ≡ 0
+    pub over : ended ≡ true → HasOver v.plan.packets v.draws
+    pub claims_are : claims ≡ claims_of v.plan v.draws
+    pub room_is : v.plan.packets ≤ room
+    pub few : length v.entries ≤ places
+    pub fits : All (IsFit v.plan) v.entries
+    pub covers : 0 < length v.draws → HasRowsFrom v.plan.setup.device v.entries (tick_of v.plan 0)

@@ -1,5 +1,6 @@
 -- What is known of a table in the end, with all its passes. (This project's own.)
-use Rattle.std.specs.Prelude.{ℕ, ◌+◌, ◌&&◌, nat_le, nat_lt, eqb, cond, min, List, [], ◌∷◌, ◌++◌, length, count_by}
+use Rattle.std.specs.Prelude.{ℕ, ◌+◌, ◌&&◌, nat_le, nat_lt, eqb, cond, min, List, [], ◌∷◌, ◌++◌}
+use Rattle.std.specs.Prelude.{length, count_by}
 use Rattle.std.specs.List.{sum_by}
 use Rattle.claim_rule.specs.declared.plan.Plan.{Plan}
 use Rattle.claim_rule.specs.declared.view.View.{View}
@@ -40,4 +41,5 @@ times_claimed k lists = sum_by (count_by (eqb k)) lists
 
 -- 1 for the number of a claim that was made on the table, after so many draws, and 0 for another
 abbrev pub once_claimed : Plan → ℕ → ℕ → ℕ
-once_claimed plan drawn k = cond (nat_le plan.from k && nat_lt k (plan.from + min drawn plan.packets)) 1 0
+once_claimed plan drawn k =
+    cond (nat_le plan.from k && nat_lt k (plan.from + min drawn plan.packets)) 1 0

@@ -11,7 +11,8 @@ pub record TableFace : Type 0 where
   pub id : TableId
   pub plan : Plan
 
--- a worker's pass: of which table, what it knows, and whether it has found that all packets were claimed
+-- a worker's pass: of which table, what it knows, and whether it has found that all packets were
+-- claimed
 pub record PassFace : Type 0 where
   pub id : TableId
   pub view : View

@@ -1,4 +1,3 @@
-pub mod Words
 pub mod Shelf
 pub mod Faces
 pub mod Claims

@@ -1,5 +1,5 @@
 -- What is given with a new pass, and what publishers and clients keep. (This project's own.)
-use Rattle.std.specs.Prelude.{◌≡◌, ℕ, ◌+◌, ◌*◌, ◌<◌, ◌≤◌, true, List, [], length}
+use Rattle.std.specs.Prelude.{◌≡◌, ℕ, ◌+◌, ◌*◌, ◌<◌, ◌≤◌, true, false, List, [], length}
 use Rattle.std.specs.List.{All, AllZip}
 use Rattle.io_caps.specs.declared.seat.NoSeat.{NoSeat}
 use Rattle.io_caps.specs.declared.memory.Or.{Or}
@@ -13,13 +13,15 @@ use Rattle.claim_rule.specs.Claims.{IsSound, IsFit}
 use Rattle.claim_rule.specs.Words.{places, stride, Spells}
 use Rattle.claim_rule.specs.Views.{without_part, worker, note}
 use Rattle.claim_word.specs.declared.span.Span.{Span}
-use Rattle.claim_word.specs.Faces.{TableFace, PassFace, ClientFace, PublisherFace, IsSpan, IsPassOf, IsClientOf}
+use Rattle.claim_word.specs.Faces.{TableFace, PassFace, ClientFace, PublisherFace, IsSpan, IsPassOf}
+use Rattle.claim_word.specs.Faces.{IsClientOf}
 
 -- a worker's pass is made: a new one, of the table, where as many are not made as there may be
 pub record IsWorkerMade (t : TableFace) (p q : PublisherFace) (w : PassFace) : Type 0 where
   pub room : p.made < p.view.plan.workers
   pub of : IsPassOf t w
   pub pass : w.view ≡ worker p.view
+  pub begins : w.ended ≡ false
   pub publisher : q ≡ record p { view = without_part p.view; made = p.made + 1 }
 
 -- the error is NoSeat just where this holds
@@ -41,9 +43,10 @@ pub record IsClient (v : View) (span : Span) : Type 0 where
   pub live : v.live ≡ true
   pub part : v.parts ≡ 0
 
--- What a publisher keeps: the entries published and the words that spell them, a base row for each output, and how many passes it
--- made.
-pub record IsPublisher (v : View) (span : Span) (made clients : ℕ) (entries : List Entry) (rows : List (List Cell)) : Type 0 where
+-- What a publisher keeps: the entries published and the words that spell them, a base row for each
+-- output, and how many passes it made.
+pub record IsPublisher (v : View) (span : Span) (made clients : ℕ) (entries : List Entry)
+    (rows : List (List Cell)) : Type 0 where
   pub sound : IsSound v.plan
   pub span_is : IsSpan v.plan span
   pub live : v.live ≡ true

@@ -21,9 +21,10 @@ planned s from ticks workers base = record {
   given = length base;
 }
 
--- What is asked of the entries with which a table begins, at so many claims: they are few; their outputs are there, and their rows pass
--- the check; words can spell their ticks; the claims at their publication never fall along the list, and end at those of the start; and
--- each output has a row from the table's first tick on.
+-- What is asked of the entries with which a table begins, at so many claims: they are few; their
+-- outputs are there, and their rows pass the check; words can spell their ticks; the claims at
+-- their publication never fall along the list, and end at those of the start; and each output has a
+-- row from the table's first tick on.
 pub record IsBase (s : SetupParts) (from : ℕ) (base : List Entry) : Type 0 where
   pub few : length base ≤ MOST_BASE_ENTRIES
   pub rows : All (IsEntryOk s.device) base
@@ -32,11 +33,12 @@ pub record IsBase (s : SetupParts) (from : ℕ) (base : List Entry) : Type 0 whe
   pub covers : HasRowsFrom s.device base (claim_tick s.device.base (length s.device.outputs) from)
 
 -- a table of this plan, and its publisher, which has seen and made nothing yet
-pub record IsStarted (plan : Plan) (base : List Entry) (t : TableFace) (p : PublisherFace) : Type 0 where
-  pub plan_is : t.plan ≡ plan
-  pub of : IsPublisherOf t p
-  pub entries : p.view.entries ≡ base
-  pub sights : p.view.sights ≡ []
-  pub told : p.view.told ≡ []
-  pub made : p.made ≡ 0
-  pub clients : p.clients ≡ 0
+pub record IsStarted (plan : Plan) (base : List Entry) (t : TableFace) (p : PublisherFace) : Type 0
+  where
+    pub plan_is : t.plan ≡ plan
+    pub of : IsPublisherOf t p
+    pub entries : p.view.entries ≡ base
+    pub sights : p.view.sights ≡ []
+    pub told : p.view.told ≡ []
+    pub made : p.made ≡ 0
+    pub clients : p.clients ≡ 0

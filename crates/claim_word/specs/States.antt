@@ -1,5 +1,6 @@
 -- What a look at a table tells, and what a publication asks and gives. (This project's own.)
-use Rattle.std.specs.Prelude.{◌≡◌, ℕ, ◌+◌, ◌-◌, ◌<◌, ◌≤◌, Bool, nat_lt, List, ◌++◌, length, max, count_by}
+use Rattle.std.specs.Prelude.{◌≡◌, ℕ, ◌+◌, ◌-◌, ◌<◌, ◌≤◌, Bool, nat_lt, List, ◌++◌, length, max}
+use Rattle.std.specs.Prelude.{count_by}
 use Rattle.std.specs.List.{All, Contains}
 use Rattle.map_entry.specs.declared.claims.TheConstants.{CLAIMS_LIMIT}
 use Rattle.map_entry.specs.declared.entry.Entry.{Entry}
@@ -14,8 +15,8 @@ use Rattle.claim_rule.specs.Words.{places}
 use Rattle.claim_rule.specs.Views.{IsSight, sight, saw}
 use Rattle.claim_word.specs.declared.state.State.{State}
 
--- A state that is seen: its claims are those of its draws, it is not below what was seen or told before, and there are at most so many
--- draws as packets and workers.
+-- A state that is seen: its claims are those of its draws, it is not below what was seen or told
+-- before, and there are at most so many draws as packets and workers.
 pub record IsState (v : View) (s : State) : Type 0 where
   pub claims : s.claims ≡ claims_at v.plan s.raw
   pub few : s.claims < CLAIMS_LIMIT
@@ -33,9 +34,10 @@ pub record HasSeen (v : View) (s : State) : Type 0 where
   pub claims : s.claims ≡ claims_at v.plan s.raw
   pub entries : s.entries ≡ length v.entries
 
--- What a publication asks of new entries behind those published, at so many claims: there are places for them; they say that they were
--- published at these claims; their outputs are there, and their rows pass the check; words can spell their ticks; and none counts from a
--- tick that has begun.
+-- What a publication asks of new entries behind those published, at so many claims: there are
+-- places for them; they say that they were published at these claims; their outputs are there, and
+-- their rows pass the check; words can spell their ticks; and none counts from a tick that has
+-- begun.
 pub record ArePublishable (s : SetupParts) (claims : ℕ) (entries new : List Entry) : Type 0 where
   pub room : length entries + length new ≤ places
   pub ats : All (λ e. e.at ≡ claims) new
@@ -43,11 +45,13 @@ pub record ArePublishable (s : SetupParts) (claims : ℕ) (entries new : List En
   pub ticks : All (λ e. e.tick < TICKS_LIMIT) new
   pub timely : All (λ e. first_tick s.device.base (length s.device.outputs) e.at ≤ due e) new
 
--- the new entries stand behind the others, all at once, and nothing else changes but the words of places
+-- the new entries stand behind the others, all at once, and nothing else changes but the words of
+-- places
 abbrev pub IsPublished : View → View → List Entry → Type 0
 IsPublished v w new = w ≡ record v { entries = v.entries ++ new; cells = w.cells }
 
--- so many numbers were drawn: this was seen, no entry is published, and nothing else changes but the words of places
+-- so many numbers were drawn: this was seen, no entry is published, and nothing else changes but
+-- the words of places
 abbrev pub IsMissed : View → View → ℕ → Type 0
 IsMissed v w raw = w ≡ record (saw v raw (length v.entries)) { cells = w.cells }
 

@@ -1,5 +1,6 @@
 -- What is written of entries, word by word. (This project's own.)
-use Rattle.std.specs.Prelude.{◌≡◌, ℕ, ◌*◌, ◌^◌, ◌<◌, ◌≤◌, List, [], ◌∷◌, ◌++◌, length, drop, slice_index}
+use Rattle.std.specs.Prelude.{◌≡◌, ℕ, ◌*◌, ◌^◌, ◌<◌, ◌≤◌, List, [], ◌∷◌, ◌++◌, length, drop}
+use Rattle.std.specs.Prelude.{slice_index}
 use Rattle.io_caps.specs.declared.limits.TheConstants.{MOST_CHANNELS}
 use Rattle.map_entry.specs.declared.claims.TheConstants.{CLAIMS_LIMIT}
 use Rattle.map_entry.specs.declared.entry.Entry.{Entry}
@@ -15,7 +16,8 @@ pub record IsWide (e : Entry) : Type 0 where
   pub at : e.at < CLAIMS_LIMIT
   pub row : length e.row ≤ MOST_CHANNELS
 
--- the view after an entry was written at a place: nothing changes but words, and none in front of the place
+-- the view after an entry was written at a place: nothing changes but words, and none in front of
+-- the place
 pub record WroteAt (v w : View) (place : ℕ) (e : Entry) : Type 0 where
   pub only : w ≡ record v { cells = w.cells }
   pub long : length w.cells ≡ length v.cells

@@ -34,7 +34,8 @@ impl Model for ClientPass {
 }
 
 impl ClientPass {
-    /// Looks at the table, by one load. The state is not below what the pass saw, nor what it was told.
+    /// Looks at the table, by one load. The state is not below what the pass saw, nor what it was
+    /// told.
     pub fn load(&mut self, table: &ClaimTable) -> State
         requires { IsClientOf table.now self.old }
         ensures pass { self.new ≡ record self.old { view = having_seen self.old.view result } }
@@ -49,7 +50,8 @@ impl ClientPass {
     pub fn hear(&mut self, table: &ClaimTable, publisher: &mut Publisher)
         requires pass { IsClientOf table.now self.old }
         requires publisher { IsPublisherOf table.now publisher.old }
-        ensures pass { self.new ≡ record self.old { view = noted self.old.view (note publisher.old.view) } }
+        ensures pass { self.new ≡ record self.old
+            { view = noted self.old.view (note publisher.old.view) } }
         ensures of { IsClientOf table.now self.new }
         ensures publisher { publisher.new ≡ publisher.old }
     {
@@ -64,7 +66,8 @@ impl Publisher {
     pub fn hear(&mut self, table: &ClaimTable, pass: &mut ClientPass)
         requires publisher { IsPublisherOf table.now self.old }
         requires pass { IsClientOf table.now pass.old }
-        ensures publisher { self.new ≡ record self.old { view = noted self.old.view (note pass.old.view) } }
+        ensures publisher { self.new ≡ record self.old
+            { view = noted self.old.view (note pass.old.view) } }
         ensures of { IsPublisherOf table.now self.new }
         ensures pass { pass.new ≡ pass.old }
     {

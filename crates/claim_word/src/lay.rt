@@ -1,12 +1,13 @@
 //! The words with which a table begins.
 
-ghost use Rattle.std.specs.Prelude.{◌≡◌, ◌+◌, ◌*◌, ◌<◌, ◌≤◌, ◌∷◌, length, drop, slice_set, IfOk};
+ghost use Rattle.std.specs.Prelude.{◌≡◌, ◌+◌, ◌*◌, ◌<◌, ◌≤◌, ◌∷◌};
+ghost use Rattle.std.specs.Prelude.{length, drop, slice_set, IfOk};
 ghost use Rattle.std.specs.List.{All};
 ghost use Rattle.claim_rule.specs.Words.{Spells, places, state_word, stride};
 ghost use Rattle.claim_word.specs.Writings.{IsLaid, WroteAll, WroteAt, holding, IsWide};
 
-use crate::write::{heads_of, word_of};
-use claim_rule::{HEAD_WORDS, STRIDE};
+use crate::write::heads_of;
+use claim_rule::{HEAD_WORDS, STRIDE, word_of};
 use io_caps::NoMemory;
 use map_entry::{Entries, Entry};
 use std::alloc::Global;

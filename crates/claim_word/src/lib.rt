@@ -1,5 +1,5 @@
-//! The claim table: workers claim packets by one atomic addition each, and a publisher publishes entries by one atomic
-//! exchange each, on the same word. No call here waits.
+//! The claim table: workers claim packets by one atomic addition each, and a publisher publishes
+//! entries by one atomic exchange each, on the same word. No call here waits.
 #![tactic(auto)]
 
 mod client;

@@ -1,6 +1,9 @@
 //! What a worker's pass remembers of the entries, and how it finds the row of a claim.
 
-ghost use Rattle.std.specs.Prelude.{ℕ, ◌≡◌, ◌+◌, ◌-◌, ◌*◌, ◌^◌, ◌<◌, ◌≤◌, List, [], true, false, map, length, drop, vec_len, vec_capacity, slice_index_or, slice_set, IfSome, IfNone, IsSome, Some, IfOk};
+ghost use Rattle.std.specs.Prelude.{ℕ, ◌≡◌, ◌+◌, ◌-◌, ◌*◌, ◌^◌, ◌<◌};
+ghost use Rattle.std.specs.Prelude.{◌≤◌, List, [], true, false};
+ghost use Rattle.std.specs.Prelude.{map, length, drop, vec_len, vec_capacity, slice_index_or};
+ghost use Rattle.std.specs.Prelude.{slice_set, IfSome, IfNone, IsSome, Some, IfOk};
 ghost use Rattle.std.specs.List.{All};
 ghost use Rattle.io_caps.specs.declared.limits.TheConstants.{MOST_CHANNELS};
 ghost use Rattle.map_entry.specs.declared.entry.Entry.{Entry as EntryValue};
@@ -31,7 +34,8 @@ pub(crate) struct Head {
 impl Head {
     /// The head that a word spells.
     fn of(word: u64) -> Head
-        ensures { (e : EntryValue) → e.output < 2 ^ 6 → word ≡ e.tick * 2 ^ 6 + e.output → result ≡ head_of e }
+        ensures { (e : EntryValue) → e.output < 2 ^ 6 → word ≡ e.tick * 2 ^ 6 + e.output
+            → result ≡ head_of e }
     {
         Head {
             output: (word % (1 << 6)) as u8,
@@ -61,7 +65,8 @@ pub(crate) struct Memory {
 impl Memory {
     /// Nothing is remembered; the room for all is taken.
     pub fn new(alloc: Global, rows: &Rows) -> Result<Memory, NoMemory>
-        ensures heads { IfOk result (λ m. (m.heads.items ≡ []) × (places ≤ vec_capacity m.heads)) }
+        ensures heads { IfOk result (λ m. (m.heads.items ≡ [])
+            × (places ≤ vec_capacity m.heads)) }
         ensures rows { IfOk result (λ m. m.rows.items ≡ rows.now) }
     {
         Ok(Memory {
@@ -71,18 +76,21 @@ impl Memory {
         })
     }
 
-    /// Reads the row of the last claim, where it wasn't read: the heads that are new, and then the words of the row of the
-    /// last entry that rules the claim's tick.
+    /// Reads the row of the last claim, where it wasn't read: the heads that are new, and then the
+    /// words of the row of the last entry that rules the claim's tick.
     pub fn find(&mut self, table: &ClaimTable, seat: &mut Seat<Entries, View>, claim: &Claim)
         requires table { (seat.old.table_id ≡ table.now.id) × IsSound seat.old.me.0.plan }
         requires memory { IsMemory seat.old.me.0 self.old }
-        requires entries { (length seat.old.me.0.entries ≤ places) × All (IsFit seat.old.me.0.plan) seat.old.me.0.entries }
-        requires covers { HasRowsFrom seat.old.me.0.plan.setup.device seat.old.me.0.entries (tick_of seat.old.me.0.plan 0) }
+        requires entries { (length seat.old.me.0.entries ≤ places)
+            × All (IsFit seat.old.me.0.plan) seat.old.me.0.entries }
+        requires covers { HasRowsFrom seat.old.me.0.plan.setup.device seat.old.me.0.entries
+            (tick_of seat.old.me.0.plan 0) }
         requires last { IsLast seat.old.me.0 claim.now }
         ensures seat { (seat.new.table_id ≡ seat.old.table_id) × (seat.new.id ≡ seat.old.id) }
         ensures view { (n : ℕ) × (seat.new.me ≡ (read_on seat.old.me.0 n, seat.old.me.1)) }
         ensures memory { IsMemory seat.new.me.0 self.new }
-        ensures row { selected seat.old.me.0.entries claim.now.output claim.now.tick ≡ Some (slice_index_or self.new.rows.items claim.now.output []) }
+        ensures row { selected seat.old.me.0.entries claim.now.output claim.now.tick
+            ≡ Some (slice_index_or self.new.rows.items claim.now.output []) }
     {
         if self.ready {
             return;
@@ -103,11 +111,14 @@ fn read_heads(
     heads: &mut Vec<Head>,
 )
     requires table { (seat.old.table_id ≡ table.now.id) × IsSound seat.old.me.0.plan }
-    requires entries { (entries ≡ length seat.old.me.0.entries) × (entries ≤ places) × (places ≤ vec_capacity heads.old) }
+    requires entries { (entries ≡ length seat.old.me.0.entries) × (entries ≤ places)
+        × (places ≤ vec_capacity heads.old) }
     requires fits { All (IsFit seat.old.me.0.plan) seat.old.me.0.entries }
     requires heads { Begins heads.old.items (map head_of seat.old.me.0.entries) }
-    ensures seat { (seat.new.table_id ≡ seat.old.table_id) × (seat.new.id ≡ seat.old.id) × (seat.new.me ≡ (read_on seat.old.me.0 (entries - vec_len heads.old), seat.old.me.1)) }
-    ensures heads { (heads.new.items ≡ map head_of seat.old.me.0.entries) × (vec_capacity heads.new ≡ vec_capacity heads.old) }
+    ensures seat { (seat.new.table_id ≡ seat.old.table_id) × (seat.new.id ≡ seat.old.id)
+        × (seat.new.me ≡ (read_on seat.old.me.0 (entries - vec_len heads.old), seat.old.me.1)) }
+    ensures heads { (heads.new.items ≡ map head_of seat.old.me.0.entries)
+        × (vec_capacity heads.new ≡ vec_capacity heads.old) }
 {
     while heads.len() < entries {
         let word = load(table, seat, heads.len(), 0);
@@ -126,10 +137,19 @@ fn read_into(
     requires table { (seat.old.table_id ≡ table.now.id) × IsSound seat.old.me.0.plan }
     requires place { (place < places) × (place < length seat.old.me.0.entries) }
     requires fits { All (IsFit seat.old.me.0.plan) seat.old.me.0.entries }
-    requires rows { (output < length rows.old.items) × (length (slice_index_or rows.old.items output []) ≤ MOST_CHANNELS) }
-    requires long { (d : EntryValue) → length (slice_index_or rows.old.items output []) ≡ length (slice_index_or seat.old.me.0.entries place d).row }
-    ensures seat { (seat.new.table_id ≡ seat.old.table_id) × (seat.new.id ≡ seat.old.id) × (seat.new.me ≡ (read_on seat.old.me.0 (length (slice_index_or rows.old.items output [])), seat.old.me.1)) }
-    ensures rows { (d : EntryValue) → rows.new.items ≡ slice_set rows.old.items output (slice_index_or seat.old.me.0.entries place d).row }
+    requires rows { (output < length rows.old.items)
+        × (length (slice_index_or rows.old.items output []) ≤ MOST_CHANNELS) }
+    requires long { (d : EntryValue)
+        → length (slice_index_or rows.old.items output [])
+        ≡ length (slice_index_or seat.old.me.0.entries place d).row }
+    ensures seat { (seat.new.table_id ≡ seat.old.table_id) × (seat.new.id ≡ seat.old.id)
+        × (seat.new.me ≡ (
+          read_on seat.old.me.0 (length (slice_index_or rows.old.items output [])),
+          seat.old.me.1,
+        )) }
+    ensures rows { (d : EntryValue)
+        → rows.new.items ≡ slice_set rows.old.items output
+        (slice_index_or seat.old.me.0.entries place d).row }
 {
     read_row(table, seat, place, &mut rows[output as usize]);
 }
@@ -137,8 +157,10 @@ fn read_into(
 /// The place of the last entry that rules an output at a tick.
 fn last_ruling(heads: &[Head], output: u8, tick: u64) -> Option<usize>
     ensures there { IfSome result (λ at. at < length heads.now) }
-    ensures rules { IfSome result (λ at. (h : HeadValue) → head_rules output tick (slice_index_or heads.now at h) ≡ true) }
-    ensures last { IfSome result (λ at. All (λ h. head_rules output tick h ≡ false) (drop (at + 1) heads.now)) }
+    ensures rules { IfSome result (λ at. (h : HeadValue)
+        → head_rules output tick (slice_index_or heads.now at h) ≡ true) }
+    ensures last { IfSome result
+        (λ at. All (λ h. head_rules output tick h ≡ false) (drop (at + 1) heads.now)) }
     ensures none { IfNone result (All (λ h. head_rules output tick h ≡ false) heads.now) }
 {
     for at in (0..heads.len()).rev() {

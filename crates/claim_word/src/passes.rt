@@ -26,8 +26,10 @@ struct Room {
 impl Room {
     /// The room for as many claims as there are packets, and for what is remembered of the entries.
     fn new(alloc: Global, packets: u64, rows: &Rows) -> Result<Room, NoMemory>
-        ensures claims { IfOk result (λ r. (r.claims.items ≡ []) × (packets ≤ vec_capacity r.claims)) }
-        ensures heads { IfOk result (λ r. (r.memory.heads.items ≡ []) × (places ≤ vec_capacity r.memory.heads)) }
+        ensures claims { IfOk result (λ r. (r.claims.items ≡ [])
+            × (packets ≤ vec_capacity r.claims)) }
+        ensures heads { IfOk result (λ r. (r.memory.heads.items ≡ [])
+            × (places ≤ vec_capacity r.memory.heads)) }
         ensures rows { IfOk result (λ r. r.memory.rows.items ≡ rows.now) }
     {
         Ok(Room {
@@ -38,12 +40,14 @@ impl Room {
 }
 
 impl Publisher {
-    /// Makes a worker's pass, with the room that it will need. `NoSeat` comes exactly where as many were made as the table
-    /// is for; nothing changes then, nor for want of memory.
+    /// Makes a worker's pass, with the room that it will need. `NoSeat` comes exactly where as many
+    /// were made as the table is for; nothing changes then, nor for want of memory.
     pub fn worker(&mut self, table: &ClaimTable) -> Result<WorkerPass, Or<NoSeat>>
         requires { IsPublisherOf table.now self.old }
         ensures of { IsPublisherOf table.now self.new }
-        ensures made { MatchResult result (λ w. IsWorkerMade table.now self.old self.new w) (λ e. (self.new ≡ self.old) × IsNoSeatIf e (self.old.made ≡ self.old.view.plan.workers)) }
+        ensures made { MatchResult result (λ w. IsWorkerMade table.now self.old self.new w)
+            (λ e. (self.new ≡ self.old)
+            × IsNoSeatIf e (self.old.made ≡ self.old.view.plan.workers)) }
     {
         if self.made >= self.workers {
             return Err(Or::Fault(NoSeat));
@@ -64,12 +68,13 @@ impl Publisher {
         })
     }
 
-    /// Makes a client's pass, which is told of all that the publisher has seen. `NoSeat` comes exactly where as many were
-    /// made as there are clients; nothing changes then.
+    /// Makes a client's pass, which is told of all that the publisher has seen. `NoSeat` comes
+    /// exactly where as many were made as there are clients; nothing changes then.
     pub fn client(&mut self, table: &ClaimTable) -> Result<ClientPass, NoSeat>
         requires { IsPublisherOf table.now self.old }
         ensures of { IsPublisherOf table.now self.new }
-        ensures made { MatchResult result (λ c. IsClientMade table.now self.old self.new c) (λ _. (self.new ≡ self.old) × (self.old.clients ≡ CLIENTS)) }
+        ensures made { MatchResult result (λ c. IsClientMade table.now self.old self.new c)
+            (λ _. (self.new ≡ self.old) × (self.old.clients ≡ CLIENTS)) }
     {
         if self.clients >= CLIENTS {
             return Err(NoSeat);

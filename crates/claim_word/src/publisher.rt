@@ -1,12 +1,15 @@
 //! The one that publishes entries.
 
-ghost use Rattle.std.specs.Prelude.{◌≡◌, ◌+◌, ◌^◌, ◌<◌, ◌≤◌, nat_lt, max, length, count_by, OnOk, IfErr};
+ghost use Rattle.std.specs.Prelude.{◌≡◌, ◌+◌, ◌^◌, ◌<◌, ◌≤◌, nat_lt, max};
+ghost use Rattle.std.specs.Prelude.{length, count_by, OnOk};
+ghost use Rattle.std.specs.Prelude.{IfErr};
 ghost use Rattle.std.specs.List.{All};
 ghost use Rattle.map_entry.specs.Tick.{first_tick};
 ghost use Rattle.map_entry.specs.Entry.{due};
 ghost use Rattle.claim_rule.specs.Words.{places};
 ghost use Rattle.claim_word.specs.Faces.{IsPublisherOf};
-ghost use Rattle.claim_word.specs.States.{ArePublishable, HasSeen, IsMissed, IsPublished, IsState, having_seen, places_left};
+ghost use Rattle.claim_word.specs.States.{ArePublishable, HasSeen, IsMissed, IsPublished, IsState};
+ghost use Rattle.claim_word.specs.States.{having_seen, places_left};
 
 use crate::shelf::Shelf;
 use crate::span::Span;
@@ -43,9 +46,17 @@ impl Model for Publisher {
 
     ghost Value = { PublisherFace };
 
-    ghost view = { λ p. record { id = p.seat.table_id; view = p.seat.me.0; made = p.made; clients = p.clients } };
+    ghost view = { λ p. record {
+      id = p.seat.table_id;
+      view = p.seat.me.0;
+      made = p.made;
+      clients = p.clients;
+    } };
 
-    ghost invariant = { λ p. IsPublisher p.seat.me.0 p.span p.made p.clients p.shelf p.rows × (p.seat.me.1 ≡ []) × (p.workers ≡ p.seat.me.0.plan.workers) × ((p.lists.items ≡ []) × (MOST_WORKERS ≤ vec_capacity p.lists)) };
+    ghost invariant = { λ p. IsPublisher p.seat.me.0 p.span p.made p.clients p.shelf p.rows
+        × (p.seat.me.1 ≡ [])
+        × (p.workers ≡ p.seat.me.0.plan.workers)
+        × ((p.lists.items ≡ []) × (MOST_WORKERS ≤ vec_capacity p.lists)) };
 }
 
 impl Publisher {
@@ -57,7 +68,8 @@ impl Publisher {
         self.shelf.as_slice()
     }
 
-    /// How many places are left for entries, where each entry that came before its tick keeps one more for its deletion.
+    /// How many places are left for entries, where each entry that came before its tick keeps one
+    /// more for its deletion.
     pub fn places(&self) -> u32
         ensures { result ≡ places_left self.now.view.plan self.now.view.entries }
     {
@@ -79,8 +91,8 @@ impl Publisher {
         self.span.state(word)
     }
 
-    /// Publishes entries all at once, by one exchange behind the stores of their words, unless a number was drawn since the
-    /// state was seen. Then none is published. No memory is taken.
+    /// Publishes entries all at once, by one exchange behind the stores of their words, unless a
+    /// number was drawn since the state was seen. Then none is published. No memory is taken.
     pub fn try_publish(
         &mut self,
         table: &ClaimTable,
@@ -89,13 +101,15 @@ impl Publisher {
     ) -> Result<(), Moved>
         requires of { IsPublisherOf table.now self.old }
         requires seen { HasSeen self.old.view seen }
-        requires entries { ArePublishable self.old.view.plan.setup seen.claims self.old.view.entries entries.now }
+        requires entries { ArePublishable self.old.view.plan.setup seen.claims self.old.view.entries
+            entries.now }
         ensures pass { self.new ≡ record self.old { view = self.new.view } }
         ensures of { IsPublisherOf table.now self.new }
         ensures published { OnOk result (IsPublished self.old.view self.new.view entries.now) }
         ensures missed { IfErr result (λ m. IsMissed self.old.view self.new.view m.raw) }
         ensures above { IfErr result (λ m. seen.raw < m.raw) }
-        ensures most { IfErr result (λ m. m.raw ≤ self.old.view.plan.packets + self.old.view.plan.workers) }
+        ensures most { IfErr result
+            (λ m. m.raw ≤ self.old.view.plan.packets + self.old.view.plan.workers) }
     {
         let new = entries.as_slice();
         let count = self.shelf.len();
@@ -119,11 +133,15 @@ impl Publisher {
 }
 
 impl Span {
-    /// Whether an entry counted from a tick above the first one not begun when it came to the table.
+    /// Whether an entry counted from a tick above the first one not begun when it came to the
+    /// table.
     fn is_above(&self, entry: &Entry) -> bool
         requires some { 0 < self.now.outputs }
-        requires sum { first_tick self.now.base self.now.outputs (max self.now.from entry.now.at) < 2 ^ 64 }
-        ensures { result ≡ nat_lt (first_tick self.now.base self.now.outputs (max self.now.from entry.now.at)) (due entry.now) }
+        requires sum { first_tick self.now.base self.now.outputs
+            (max self.now.from entry.now.at) < 2 ^ 64 }
+        ensures { result ≡ nat_lt
+            (first_tick self.now.base self.now.outputs (max self.now.from entry.now.at))
+            (due entry.now) }
     {
         first_tick(self.base, self.outputs, self.from.max(entry.at)) < entry.tick
     }
@@ -131,8 +149,12 @@ impl Span {
     /// How many entries counted so.
     fn count_above(&self, entries: &[Entry]) -> usize
         requires some { 0 < self.now.outputs }
-        requires sums { All (λ e. first_tick self.now.base self.now.outputs (max self.now.from e.at) < 2 ^ 64) entries.now }
-        ensures value { result ≡ count_by (λ e. nat_lt (first_tick self.now.base self.now.outputs (max self.now.from e.at)) (due e)) entries.now }
+        requires sums { All
+            (λ e. first_tick self.now.base self.now.outputs (max self.now.from e.at) < 2 ^ 64)
+            entries.now }
+        ensures value { result ≡ count_by
+            (λ e. nat_lt (first_tick self.now.base self.now.outputs (max self.now.from e.at))
+            (due e)) entries.now }
         ensures few { result ≤ length entries.now }
     {
         let mut above = 0;

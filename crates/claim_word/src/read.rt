@@ -1,33 +1,19 @@
 //! How entries are read back word by word.
 
-ghost use Rattle.std.specs.Prelude.{ℕ, ◌≡◌, ◌+◌, ◌*◌, ◌^◌, ◌<◌, ◌≤◌, length, slice_index, slice_index_or};
+ghost use Rattle.std.specs.Prelude.{ℕ, ◌≡◌, ◌+◌, ◌*◌, ◌^◌, ◌<◌, ◌≤◌};
+ghost use Rattle.std.specs.Prelude.{length, slice_index};
+ghost use Rattle.std.specs.Prelude.{slice_index_or};
 ghost use Rattle.std.specs.List.{All};
-ghost use Rattle.map_entry.specs.declared.cell.Cell.{Cell as CellValue};
 ghost use Rattle.map_entry.specs.declared.entry.Entry.{Entry as EntryValue};
 ghost use Rattle.claim_rule.specs.Claims.{IsFit, IsSound};
-ghost use Rattle.claim_rule.specs.Words.{cell_word, entry_words, places, stride};
+ghost use Rattle.claim_rule.specs.Words.{entry_words, places, stride};
 ghost use Rattle.io_caps.specs.declared.limits.TheConstants.{MOST_CHANNELS};
-ghost use Rattle.claim_word.specs.Words.{IsByteCell};
 ghost use Rattle.claim_word.specs.Claims.{read_on};
 
 use crate::table::ClaimTable;
 use atomic_table::Seat;
-use claim_rule::{HEAD_WORDS, Reads, STRIDE, View};
-use map_entry::{Cell, Entries, Row};
-
-/// The cell that a word spells.
-fn cell_of(word: u64) -> Cell
-    ensures { (c : CellValue) → IsByteCell c → word ≡ cell_word c → result ≡ c }
-{
-    if word == 0 {
-        return Cell::Unrouted;
-    }
-    let named = word - 1;
-    Cell::From {
-        input: (named / (1 << 8) % (1 << 8)) as u8,
-        channel: (named % (1 << 8)) as u8,
-    }
-}
+use claim_rule::{HEAD_WORDS, Reads, STRIDE, View, cell_of};
+use map_entry::{Entries, Row};
 
 /// Loads a word of the entry at a place.
 pub(crate) fn load(
@@ -38,8 +24,11 @@ pub(crate) fn load(
 ) -> u64
     requires table { seat.old.table_id ≡ table.now.id }
     requires place { (place < places) × (at < stride) }
-    ensures seat { (seat.new.table_id ≡ seat.old.table_id) × (seat.new.id ≡ seat.old.id) × (seat.new.me ≡ (read_on seat.old.me.0 1, seat.old.me.1)) }
-    ensures word { (d : EntryValue) → place < length seat.old.me.0.entries → at < length (entry_words (slice_index_or seat.old.me.0.entries place d)) → result ≡ slice_index (entry_words (slice_index_or seat.old.me.0.entries place d)) at }
+    ensures seat { (seat.new.table_id ≡ seat.old.table_id) × (seat.new.id ≡ seat.old.id)
+        × (seat.new.me ≡ (read_on seat.old.me.0 1, seat.old.me.1)) }
+    ensures word { (d : EntryValue) → place < length seat.old.me.0.entries
+        → at < length (entry_words (slice_index_or seat.old.me.0.entries place d))
+        → result ≡ slice_index (entry_words (slice_index_or seat.old.me.0.entries place d)) at }
 {
     table
         .table
@@ -56,11 +45,14 @@ pub(crate) fn read_row(
 )
     requires table { (seat.old.table_id ≡ table.now.id) × IsSound seat.old.me.0.plan }
     requires place { (place < places) × (place < length seat.old.me.0.entries) }
-    requires row { (d : EntryValue) → length row.old ≡ length (slice_index_or seat.old.me.0.entries place d).row }
+    requires row { (d : EntryValue)
+        → length row.old ≡ length (slice_index_or seat.old.me.0.entries place d).row }
     requires few { length row.old ≤ MOST_CHANNELS }
     requires fits { All (IsFit seat.old.me.0.plan) seat.old.me.0.entries }
-    ensures seat { (seat.new.table_id ≡ seat.old.table_id) × (seat.new.id ≡ seat.old.id) × (seat.new.me ≡ (read_on seat.old.me.0 (length row.old), seat.old.me.1)) }
-    ensures row { (d : EntryValue) → row.new ≡ (slice_index_or seat.old.me.0.entries place d).row }
+    ensures seat { (seat.new.table_id ≡ seat.old.table_id) × (seat.new.id ≡ seat.old.id)
+        × (seat.new.me ≡ (read_on seat.old.me.0 (length row.old), seat.old.me.1)) }
+    ensures row { (d : EntryValue)
+        → row.new ≡ (slice_index_or seat.old.me.0.entries place d).row }
 {
     for at in 0..row.len() {
         let word = load(table, seat, place, HEAD_WORDS + at);

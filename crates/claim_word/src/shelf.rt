@@ -1,6 +1,8 @@
 //! The entries that a publisher has published, with room for all that a table takes.
 
-ghost use Rattle.std.specs.Prelude.{◌≡◌, ◌+◌, ◌<◌, ◌≤◌, [], ◌∷◌, ◌++◌, length, take, replicate, vec_len, vec_capacity, IfOk};
+ghost use Rattle.std.specs.Prelude.{◌≡◌, ◌+◌, ◌<◌, ◌≤◌, [], ◌∷◌};
+ghost use Rattle.std.specs.Prelude.{◌++◌, length, take, replicate};
+ghost use Rattle.std.specs.Prelude.{vec_len, vec_capacity, IfOk};
 ghost use Rattle.std.specs.List.{All};
 ghost use Rattle.io_caps.specs.declared.limits.TheConstants.{PLACES, MOST_CHANNELS};
 ghost use Rattle.map_entry.specs.declared.cell.Cell.TheVariants.{Unrouted};
@@ -11,8 +13,8 @@ use map_entry::{Cell, Entries, Entry, Row};
 use std::alloc::Global;
 use std::marker::Model;
 
-/// Entries, which contracts see as their list, and a spare row for each place that is left, so that one more takes no
-/// memory.
+/// Entries, which contracts see as their list, and a spare row for each place that is left, so that
+/// one more takes no memory.
 #[derive(Drop)]
 pub(crate) struct Shelf {
     entries: Vec<Entry>,
@@ -28,7 +30,8 @@ impl Model for Shelf {
 
     ghost view = { λ shelf. shelf.entries.items };
 
-    ghost invariant = { λ shelf. IsShelf shelf.entries.items (vec_capacity shelf.entries) shelf.spare.items };
+    ghost invariant = { λ shelf.
+        IsShelf shelf.entries.items (vec_capacity shelf.entries) shelf.spare.items };
 }
 
 impl Shelf {

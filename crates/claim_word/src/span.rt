@@ -22,7 +22,11 @@ impl Span {
     /// What word 0 tells.
     pub fn state(&self, word: u64) -> State
         requires { self.now.from + self.now.packets < CLAIMS_LIMIT }
-        ensures { result ≡ record { raw = raw_of word; claims = self.now.from + min (raw_of word) self.now.packets; entries = count_of word } }
+        ensures { result ≡ record {
+          raw = raw_of word;
+          claims = self.now.from + min (raw_of word) self.now.packets;
+          entries = count_of word;
+        } }
     {
         let raw = word % (1 << 32);
         State {

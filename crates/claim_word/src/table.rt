@@ -33,14 +33,19 @@ impl Model for ClaimTable {
 
     ghost Value = { TableFace };
 
-    ghost view = { λ t. record { id = t.table.shared.table_id; plan = plan_of t.table.shared.key } };
+    ghost view = { λ t. record {
+      id = t.table.shared.table_id;
+      plan = plan_of t.table.shared.key;
+    } };
 
-    ghost invariant = { λ t. IsSound (plan_of t.table.shared.key) × (t.table.shared.table_id.words ≡ 1 + places * stride) × (t.table.shared.table_id.slots ≡ 0) };
+    ghost invariant = { λ t. IsSound (plan_of t.table.shared.key)
+        × (t.table.shared.table_id.words ≡ 1 + places * stride)
+        × (t.table.shared.table_id.slots ≡ 0) };
 }
 
 impl ClaimTable {
-    /// Starts a table of so many ticks, from a number of claims on, for so many workers. It begins with the base entries.
-    /// All the memory is taken that publishing, and the end, will need.
+    /// Starts a table of so many ticks, from a number of claims on, for so many workers. It begins
+    /// with the base entries. All the memory is taken that publishing, and the end, will need.
     pub fn start(
         alloc: Global,
         setup: &Setup,
@@ -53,7 +58,8 @@ impl ClaimTable {
         requires workers { workers ≤ MOST_WORKERS }
         requires claims { from + ticks * length setup.now.device.outputs < CLAIMS_LIMIT }
         requires base { IsBase setup.now from base.now }
-        ensures { IfOk result (λ t. IsStarted (planned setup.now from ticks workers base.now) base.now t.0 t.1) }
+        ensures { IfOk result
+            (λ t. IsStarted (planned setup.now from ticks workers base.now) base.now t.0 t.1) }
     {
         let outputs = setup.device.outputs();
         let words = words_of(alloc, base, WORDS)?;

@@ -1,6 +1,7 @@
 //! Tables worked by hand, and that no call gives up where there is memory.
 
-ghost use Rattle.std.specs.Prelude.{◌≡◌, ◌<◌, ◌≤◌, ◌∷◌, [], IfOk, IsTrue, OnOk, length};
+ghost use Rattle.std.specs.Prelude.{◌≡◌, ◌<◌, ◌≤◌, ◌∷◌, [], IfOk, IsTrue};
+ghost use Rattle.std.specs.Prelude.{OnOk, length};
 ghost use Rattle.io_caps.specs.declared.limits.TheConstants.{LAP_TICKS, MOST_OUTPUTS};
 ghost use Rattle.map_entry.specs.Entry.{IsEntryOk};
 ghost use Rattle.map_entry.specs.Row.{IsRowOf};
@@ -212,9 +213,11 @@ fn is_row(device: &Device, output: u8, row: &Row) -> bool
     }
 }
 
-/// Whether an entry counts from no tick that has begun after so many claims, and words can spell its tick.
+/// Whether an entry counts from no tick that has begun after so many claims, and words can spell
+/// its tick.
 fn is_timely(device: &Device, claims: u64, tick: u64) -> bool
-    ensures timely { IsTrue result → first_tick device.now.base (length device.now.outputs) claims ≤ tick }
+    ensures timely { IsTrue result
+        → first_tick device.now.base (length device.now.outputs) claims ≤ tick }
     ensures few { IsTrue result → tick < TICKS_LIMIT }
 {
     if claims >= CLAIMS_LIMIT || tick >= TICKS_LIMIT {

@@ -5,7 +5,8 @@ ghost use Rattle.map_entry.specs.Entry.{selected};
 ghost use Rattle.map_entry.specs.Row.{IsRowOf};
 ghost use Rattle.claim_rule.specs.Claims.{IsSound, outputs_of};
 ghost use Rattle.claim_word.specs.Faces.{IsPassOf};
-ghost use Rattle.claim_word.specs.Claims.{IsDrawn, IsFrugal, IsLast, IsLate, OnPacket, is_over, number_of};
+ghost use Rattle.claim_word.specs.Claims.{IsDrawn, IsFrugal, IsLast, IsLate, OnPacket, is_over};
+ghost use Rattle.claim_word.specs.Claims.{number_of};
 
 use crate::memory::Memory;
 use crate::span::Span;
@@ -80,23 +81,27 @@ impl Model for WorkerPass {
 
     ghost view = { λ p. record { id = p.seat.table_id; view = p.seat.me.0; ended = p.ended } };
 
-    ghost invariant = { λ p. IsWorker p.seat.me.0 p.span p.claims.items (vec_capacity p.claims) p.ended × IsMemory p.seat.me.0 p.memory × (p.seat.me.1 ≡ []) };
+    ghost invariant = { λ p.
+        IsWorker p.seat.me.0 p.span p.claims.items (vec_capacity p.claims) p.ended
+        × IsMemory p.seat.me.0 p.memory × (p.seat.me.1 ≡ []) };
 }
 
 impl WorkerPass {
     ghost use Rattle.std.specs.Borrow.{sem};
     ghost use Rattle.claim_word.specs.Lending.{EndsRead};
 
-    /// Claims the next packet by one atomic addition, or tells that all are claimed; from then on it tells so without a
-    /// step.
+    /// Claims the next packet by one atomic addition, or tells that all are claimed; from then on
+    /// it tells so without a step.
     pub fn claim(&mut self, table: &ClaimTable) -> Claimed
         requires { IsPassOf table.now self.old }
         ensures of { IsPassOf table.now self.new }
-        ensures drawn { OnPacket result (λ c. IsDrawn self.old self.new (number_of self.old.view.plan c)) }
+        ensures drawn { OnPacket result
+            (λ c. IsDrawn self.old self.new (number_of self.old.view.plan c)) }
         ensures last { OnPacket result (IsLast self.new.view) }
         ensures there { OnPacket result (λ c. c.output < outputs_of self.old.view.plan) }
         ensures ended { self.new.ended ≡ is_over result }
-        ensures late { is_over result ≡ true → self.old.ended ≡ false → IsLate self.old self.new }
+        ensures late { is_over result ≡ true → self.old.ended ≡ false
+            → IsLate self.old self.new }
         ensures stays { self.old.ended ≡ true → self.new ≡ self.old }
         ensures sound { IsSound self.new.view.plan }
         ensures loads { IsFrugal self.new.view }
@@ -121,12 +126,14 @@ impl WorkerPass {
         })
     }
 
-    /// The row that rules the claim's packet, by the entries that its draw found. The claim is the pass's last.
+    /// The row that rules the claim's packet, by the entries that its draw found. The claim is the
+    /// pass's last.
     pub fn row(&mut self, table: &ClaimTable, claim: &Claim) -> &Row
         requires pass { IsPassOf table.now self.old }
         requires last { IsLast self.old.view claim.now }
         ensures* after { sem 𝓛 (EndsRead self.entry claim.now) }
-        ensures row { selected self.old.view.entries claim.now.output claim.now.tick ≡ Some result.now }
+        ensures row { selected self.old.view.entries claim.now.output claim.now.tick
+            ≡ Some result.now }
         ensures fits { IsRowOf self.old.view.plan.setup.device claim.now.output result.now }
     {
         self.memory.find(table, &mut self.seat, claim);

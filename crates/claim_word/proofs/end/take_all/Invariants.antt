@@ -18,5 +18,6 @@ invariant-loop-pass l = record {
   lists : l.lists.items ≡ l.fn.lists.items ++ map (claims_by l.fn.table.plan) l.yielded;
   room : vec_capacity l.lists ≡ vec_capacity l.fn.lists;
   count : vec_len l.lists ≡ vec_len l.fn.lists + length l.yielded;
-  over : list_any (λ (w : PassFace). w.ended) l.yielded ≡ true → HasOver l.fn.table.plan.packets (draws_in l.yielded);
+  over : list_any (λ (w : PassFace). w.ended) l.yielded ≡ true
+      → HasOver l.fn.table.plan.packets (draws_in l.yielded);
 }

@@ -4,8 +4,12 @@ use Rattle.claim_word.proofs.memory.read_into.Goals as goal
 use Rattle.claim_word.proofs.memory.read_into.Goals.{After-index_mut}
 
 -- the row that is lent
-lent : (c : After-index_mut) → c.index_mut.result.now ≡ get_or c.args.rows.now.items c.args.output []
-lent c = c.index_mut.ensures.value ∙ get_or_default c.args.rows.now.items c.args.output c.index_mut.result.now [] c.requires.rows.0
+lent : (c : After-index_mut)
+    → c.index_mut.result.now ≡ get_or c.args.rows.now.items c.args.output []
+lent c = c.index_mut.ensures.value ∙ get_or_default c.args.rows.now.items c.args.output
+    c.index_mut.result.now [] c.requires.rows.0
 
 pub read_row-requires-clause-row : goal.read_row-requires-clause-row
-read_row-requires-clause-row c = λ d. ap length (lent (goal.at.read_row-requires-clause-row c).After-index_mut) ∙ c.requires.long d
+read_row-requires-clause-row c =
+    λ d. ap length (lent (goal.at.read_row-requires-clause-row c).After-index_mut)
+    ∙ c.requires.long d

@@ -17,6 +17,9 @@ returns-clause-ok c =
     let s : SetupParts = c.args.setup.now in let o : ℕ = c.args.output in
     let rows = c.as_slice-rows.ensures ∙ ap (λ (x : SetupParts). x.rows) c.setup.view_is in
     let valid = subst IsSetup c.setup.view_is c.setup.invariant in
-    let read = slice_get_read s.rows _ o _ refl (omega (arith, c.requires, rows_long s valid)) (rw rows at c.index-rows-output.is) in
-    subst (IsEntryOk s.device) (sym (c.new.ensures ∙ ap (λ (r : List Cell). entry_of o c.base.result r 0) c.in_ok-row.ensures))
+    let read = slice_get_read s.rows _ o _ refl (omega (arith, c.requires, rows_long s valid))
+    (rw rows at c.index-rows-output.is) in
+    subst (IsEntryOk s.device)
+    (sym (c.new.ensures ∙ ap (λ (r : List Cell). entry_of o c.base.result r 0)
+    c.in_ok-row.ensures))
     (base_row s o c.index-rows-output.result valid read)

@@ -6,5 +6,6 @@ pub store-requires : goal.store-requires
 store-requires c = (
   c.requires.table ∙ sym (ap (λ z. z.id) c.table.view_is),
   omega (arith, c.table.invariant.1, c.requires.behind.1),
-  writes_keeps c.table.inside.table.shared.key _ _ _ _ c.args.cell _ refl c.requires.publishes c.requires.behind.0,
+  writes_keeps c.table.inside.table.shared.key _ _ _ _ c.args.cell _ refl c.requires.publishes
+      c.requires.behind.0,
 )

@@ -15,8 +15,16 @@ load-word-requires c = (
 
 pub returns-clause-seen : goal.returns-clause-seen
 returns-clause-seen c =
-    let p = c.self.invariant.0 in let v : View = c.self.inside.seat.me.0 in let told = c.load-word.ensures.2 in
+    let p = c.self.invariant.0 in let v : View = c.self.inside.seat.me.0 in
+    let told = c.load-word.ensures.2 in
     let raw : ℕ = c.load-word.result % 2 ^ 32 in let span = p.span_is in
-    let look : State = record { raw = raw; claims = c.self.inside.span.from + min raw c.self.inside.span.packets; entries = c.load-word.result / 2 ^ 32 } in
-    let has = has_seen v look (λ k. span.from_is k + min raw (span.packets_is k)) (told.1.own p.loud) in
-    subst (λ (z : View × State). HasSeen z.0 z.1) (λ k. (ap (λ m. m.0) (sym told.0) k, sym c.state.ensures k)) has
+    let look : State =
+    record {
+      raw = raw;
+      claims = c.self.inside.span.from + min raw c.self.inside.span.packets;
+      entries = c.load-word.result / 2 ^ 32;
+    } in
+    let has = has_seen v look (λ k. span.from_is k + min raw (span.packets_is k))
+    (told.1.own p.loud) in
+    subst (λ (z : View × State). HasSeen z.0 z.1)
+    (λ k. (ap (λ m. m.0) (sym told.0) k, sym c.state.ensures k)) has

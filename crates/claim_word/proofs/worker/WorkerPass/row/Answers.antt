@@ -19,18 +19,24 @@ use Rattle.claim_word.proofs.worker.WorkerPass.row.Goals.{After-find}
 
 -- the claim's output has a row, which was read
 rows : (c : After-find) → (c.args.claim.now.output < length c.find.new.self.rows.items)
-    × (length (get_or c.find.new.self.rows.items c.args.claim.now.output []) ≡ channels_of_output c.self.inside.seat.me.0.plan.setup.device c.args.claim.now.output)
+    × (length (get_or c.find.new.self.rows.items c.args.claim.now.output []) ≡ channels_of_output
+    c.self.inside.seat.me.0.plan.setup.device c.args.claim.now.output)
 rows c =
     let v : View = c.self.inside.seat.me.0 in let p = c.self.invariant.0 in
-    let last = subst (λ (f : PassFace). IsLast f.view c.args.claim.now) (sym c.self.view_is) c.requires.last in
+    let last = subst (λ (f : PassFace). IsLast f.view c.args.claim.now) (sym c.self.view_is)
+    c.requires.last in
     let there : c.args.claim.now.output < outputs_of v.plan =
-    let o = last.claim.output in let t = output_there v.plan (number_of v.plan c.args.claim.now) p.sound in omega arith in
-    let now : c.find.new.seat.me.0 ≡ read_on v c.find.ensures.view.0 = ap (λ m. m.0) c.find.ensures.view.1 in
+    let o = last.claim.output in
+    let t = output_there v.plan (number_of v.plan c.args.claim.now) p.sound in omega arith in
+    let now : c.find.new.seat.me.0 ≡ read_on v c.find.ensures.view.0 =
+    ap (λ m. m.0) c.find.ensures.view.1 in
     rows_there v.plan.setup.device c.find.new.self.rows.items c.args.claim.now.output
-    (subst (λ (w : View). AllZip HasCells w.plan.setup.device.outputs c.find.new.self.rows.items) now c.find.ensures.memory.rows) there
+    (subst (λ (w : View). AllZip HasCells w.plan.setup.device.outputs c.find.new.self.rows.items)
+    now c.find.ensures.memory.rows) there
 
 pub index-requires : goal.index-requires
-index-requires c = let r = (rows (goal.at.index-requires c).After-find).0 in let ok = c.find.new.self.rows.ok in omega arith
+index-requires c = let r = (rows (goal.at.index-requires c).After-find).0 in
+    let ok = c.find.new.self.rows.ok in omega arith
 
 pub returns : goal.returns
 returns c =
@@ -39,14 +45,27 @@ returns c =
     let now : c.find.new.seat.me.0 ≡ read_on v n = ap (λ m. m.0) c.find.ensures.view.1 in
     let same : v ≡ c.args.self.now.view = ap (λ (f : PassFace). f.view) c.self.view_is in
     let row : c.index.result.now ≡ get_or c.find.new.self.rows.items o [] =
-    c.index.ensures ∙ get_or_default c.find.new.self.rows.items o c.index.result.now [] (rows at).0 in
-    let was : PassFace = record { id = c.self.inside.seat.table_id; view = v; ended = c.self.inside.ended } in
-    let is : PassFace = record { id = c.find.new.seat.table_id; view = c.find.new.seat.me.0; ended = c.self.inside.ended } in
-    let pass : is ≡ record was { view = read_on v n } = (λ k. record { id = c.find.ensures.seat.0 k; view = now k; ended = c.self.inside.ended }) in
-    let chosen : selected c.args.self.now.view.entries o c.args.claim.now.tick ≡ Some c.index.result.now =
-    (λ k. selected (sym same k).entries o c.args.claim.now.tick) ∙ (c.find.ensures.row ∙ ap Some (sym row)) in
+    c.index.ensures ∙ get_or_default c.find.new.self.rows.items o c.index.result.now [] (rows at).0
+    in
+    let was : PassFace = record {
+      id = c.self.inside.seat.table_id;
+      view = v;
+      ended = c.self.inside.ended;
+    } in
+    let is : PassFace = record {
+      id = c.find.new.seat.table_id;
+      view = c.find.new.seat.me.0;
+      ended = c.self.inside.ended;
+    } in
+    let pass : is ≡ record was { view = read_on v n } =
+    (λ k. record { id = c.find.ensures.seat.0 k; view = now k; ended = c.self.inside.ended }) in
+    let chosen : selected c.args.self.now.view.entries o c.args.claim.now.tick ≡ Some
+    c.index.result.now =
+    (λ k. selected (sym same k).entries o c.args.claim.now.tick)
+    ∙ (c.find.ensures.row ∙ ap Some (sym row)) in
     let oks : All (IsEntryOk v.plan.setup.device) v.entries =
-    All-weaker (IsFit v.plan) (IsEntryOk v.plan.setup.device) (λ (e : Entry) (f : IsFit v.plan e). f.ok) v.entries c.self.invariant.0.fits in (
+    All-weaker (IsFit v.plan) (IsEntryOk v.plan.setup.device)
+    (λ (e : Entry) (f : IsFit v.plan e). f.ok) v.entries c.self.invariant.0.fits in (
       (
         refl,
         (λ _. tt),
@@ -62,6 +81,7 @@ returns c =
         after = tt;
         row = chosen;
         fits = subst (λ (u : View). IsRowOf u.plan.setup.device o c.index.result.now) same
-            (selected_row v.plan.setup.device v.entries o c.args.claim.now.tick c.index.result.now oks (c.find.ensures.row ∙ ap Some (sym row)));
+            (selected_row v.plan.setup.device v.entries o c.args.claim.now.tick c.index.result.now
+            oks (c.find.ensures.row ∙ ap Some (sym row)));
       },
     )
