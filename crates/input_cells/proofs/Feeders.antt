@@ -1,5 +1,6 @@
 -- All feeders' passes of a table, one after the other.
-use Rattle.std.proofs.Common.{◌≡◌, ℕ, ◌+◌, List, [], ◌∷◌, ◌++◌, length, map, take, sym, ap, ◌∙◌, arith}
+use Rattle.std.proofs.Common.{◌≡◌, ℕ, ◌+◌, List, [], ◌∷◌, ◌++◌, length, map, take, sym, ap, ◌∙◌}
+use Rattle.std.proofs.Common.{arith}
 use Rattle.std.proofs.lemmas.List.{map-append, take_all, take_more}
 use Rattle.std.proofs.lemmas.Option.{get_or_from_slice_get, slice_get_within}
 use Rattle.std.specs.Prelude.{Some, slice_get}
@@ -17,5 +18,6 @@ feeders_more table made pass n so_far is =
     ∙ sym (take_more table n f (slice_get_within table n f is))
 
 -- all of them
-pub feeders_all : (table : List InputFace) (made : List SeatFace) (n : ℕ) → length table ≡ n → map face_of made ≡ take n table → map face_of made ≡ table
+pub feeders_all : (table : List InputFace) (made : List SeatFace) (n : ℕ) → length table ≡ n
+    → map face_of made ≡ take n table → map face_of made ≡ table
 feeders_all table made n all is = is ∙ take_all n table (omega arith)

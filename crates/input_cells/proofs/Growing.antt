@@ -1,5 +1,6 @@
 -- What passes know only grows.
-use Rattle.std.proofs.Common.{◌≡◌, ℕ, zero, suc, ◌<◌, List, [], ◌∷◌, ◌++◌, length, map, get_or, refl, sym, ap, ◌∙◌, subst, arith, append_assoc, true, false, Bool}
+use Rattle.std.proofs.Common.{◌≡◌, ℕ, zero, suc, ◌<◌, List, [], ◌∷◌, ◌++◌, length, map, get_or}
+use Rattle.std.proofs.Common.{refl, sym, ap, ◌∙◌, subst, arith, append_assoc, true, false, Bool}
 use Rattle.std.proofs.lemmas.List.{append-nil, get_or_append_left, length-append}
 use Rattle.std.proofs.lemmas.List.Elements.{All-append}
 use Rattle.std.specs.Prelude.{None, is_some, ℤ}
@@ -9,7 +10,8 @@ use Rattle.input_rule.specs.declared.view.Heard.{Heard}
 use Rattle.input_rule.specs.declared.view.Look.{Look}
 use Rattle.input_rule.specs.declared.view.View.{View}
 use Rattle.input_rule.specs.Views.{HasMissed, HasSeen, closed_of, listened, looked, saw}
-use Rattle.input_cells.specs.Faces.{GoesOn, Grows, GrowsAt, HasView, InputFace, SeatFace, changed, face_of, heard_of, looks_of}
+use Rattle.input_cells.specs.Faces.{GoesOn, Grows, GrowsAt, HasView, InputFace, SeatFace, changed}
+use Rattle.input_cells.specs.Faces.{face_of, heard_of, looks_of}
 use Rattle.input_cells.specs.Laws.{AgreesBefore, GrowsOn, KeepsMissed, KeepsSeen, StaysOfTable}
 
 -- ---- lists that go on
@@ -19,18 +21,22 @@ module _ {A : Type 0} where
   on_still xs = ([], sym (append-nil xs))
 
   pub on_then : (xs ys zs : List A) → GoesOn xs ys → GoesOn ys zs → GoesOn xs zs
-  on_then xs ys zs f g = (f.0 ++ g.0, g.1 ∙ (ap (λ (l : List A). l ++ g.0) f.1 ∙ append_assoc xs f.0 g.0))
+  on_then xs ys zs f g =
+      (f.0 ++ g.0, g.1 ∙ (ap (λ (l : List A). l ++ g.0) f.1 ∙ append_assoc xs f.0 g.0))
 
   pub on_among : (xs ys : List A) (x : A) → GoesOn xs ys → Contains xs x → Contains ys x
   on_among xs ys x f h = (
     h.0,
-    (let l = ap (λ (l : List A). length l) f.1 in let m = length-append xs f.0 in let k = h.1 in omega arith),
+    (let l = ap (λ (l : List A). length l) f.1 in let m = length-append xs f.0 in let k = h.1 in
+        omega arith),
     ap (λ (l : List A). get_or l h.0 x) f.1 ∙ (get_or_append_left xs f.0 x h.0 h.1 ∙ h.2),
   )
 
   pub on_all : (P : A → Type 0) (xs ys : List A) → GoesOn xs ys → All P ys → All P xs
-  on_all P xs ys f h = λ k d lt. subst P (ap (λ (l : List A). get_or l k d) f.1 ∙ get_or_append_left xs f.0 d k lt)
-      (h k d (let l = ap (λ (l : List A). length l) f.1 in let m = length-append xs f.0 in omega arith))
+  on_all P xs ys f h =
+      λ k d lt. subst P (ap (λ (l : List A). get_or l k d) f.1 ∙ get_or_append_left xs f.0 d k lt)
+      (h k d (let l = ap (λ (l : List A). length l) f.1 in let m = length-append xs f.0 in
+      omega arith))
 
   pub last_among : (xs : List A) (x : A) → Contains (xs ++ x ∷ []) x
   last_among xs x = (length xs, (let m = length-append xs (x ∷ []) in omega arith), at_end xs x x)
@@ -42,7 +48,12 @@ module _ {A : Type 0} where
 -- ---- one input
 
 pub still_at : (p : SeatFace) → GrowsAt p p
-still_at p = record { face = refl; closings = on_still p.view.closings; looks = on_still p.view.looks; heard = on_still p.view.heard }
+still_at p = record {
+  face = refl;
+  closings = on_still p.view.closings;
+  looks = on_still p.view.looks;
+  heard = on_still p.view.heard;
+}
 
 pub grows_then : (p q r : SeatFace) → GrowsAt p q → GrowsAt q r → GrowsAt p r
 grows_then p q r f g = record {
@@ -53,23 +64,69 @@ grows_then p q r f g = record {
 }
 
 pub seen_on : (p q : SeatFace) (tick : ℕ) → GrowsAt p q → HasSeen p.view tick → HasSeen q.view tick
-seen_on p q tick g h = record { look = h.look; among = on_among p.view.looks q.view.looks h.look g.looks h.among; input_is = h.input_is ∙ ap (λ (z : InputFace). z.shape.input) (sym g.face); tick_is = h.tick_is; saw_it = h.saw_it }
+seen_on p q tick g h =
+    record {
+      look = h.look;
+      among = on_among p.view.looks q.view.looks h.look g.looks h.among;
+      input_is = h.input_is ∙ ap (λ (z : InputFace). z.shape.input) (sym g.face);
+      tick_is = h.tick_is;
+      saw_it = h.saw_it;
+    }
 
-missed_on : (p q : SeatFace) (tick : ℕ) → GrowsAt p q → HasMissed p.view tick → HasMissed q.view tick
-missed_on p q tick g h = record { look = h.look; among = on_among p.view.looks q.view.looks h.look g.looks h.among; input_is = h.input_is ∙ ap (λ (z : InputFace). z.shape.input) (sym g.face); tick_is = h.tick_is; missed_it = h.missed_it; late = h.late }
+missed_on : (p q : SeatFace) (tick : ℕ) → GrowsAt p q → HasMissed p.view tick
+    → HasMissed q.view tick
+missed_on p q tick g h =
+    record {
+      look = h.look;
+      among = on_among p.view.looks q.view.looks h.look g.looks h.among;
+      input_is = h.input_is ∙ ap (λ (z : InputFace). z.shape.input) (sym g.face);
+      tick_is = h.tick_is;
+      missed_it = h.missed_it;
+      late = h.late;
+    }
 
 pub saw_more : (p : SeatFace) (number : ℕ) → GrowsAt p (record p { view = saw p.view number })
-saw_more p number = record { face = refl; closings = (number ∷ [], refl); looks = on_still p.view.looks; heard = on_still p.view.heard }
+saw_more p number = record {
+  face = refl;
+  closings = (number ∷ [], refl);
+  looks = on_still p.view.looks;
+  heard = on_still p.view.heard;
+}
 
-pub looked_more : (p : SeatFace) (tick : ℕ) (present : Bool) → GrowsAt p (record p { view = looked p.view tick present })
-looked_more p tick present = record { face = refl; closings = on_still p.view.closings; looks = (_, refl); heard = on_still p.view.heard }
+pub looked_more : (p : SeatFace) (tick : ℕ) (present : Bool)
+    → GrowsAt p (record p { view = looked p.view tick present })
+looked_more p tick present = record {
+  face = refl;
+  closings = on_still p.view.closings;
+  looks = (_, refl);
+  heard = on_still p.view.heard;
+}
 
-pub listened_more : (p : SeatFace) (tick place : ℕ) (value : ℤ) → GrowsAt p (record p { view = listened p.view tick place value })
-listened_more p tick place value = record { face = refl; closings = on_still p.view.closings; looks = on_still p.view.looks; heard = (_, refl) }
+pub listened_more : (p : SeatFace) (tick place : ℕ) (value : ℤ)
+    → GrowsAt p (record p { view = listened p.view tick place value })
+listened_more p tick place value = record {
+  face = refl;
+  closings = on_still p.view.closings;
+  looks = on_still p.view.looks;
+  heard = (_, refl);
+}
 
 -- a look that saw the block is one that saw it
-pub looked_seen : (v : View) (tick : ℕ) (present : Bool) → present ≡ true → HasSeen (looked v tick present) tick
-looked_seen v tick present there = record { look = record { input = v.shape.input; tick = tick; present = present; closed = closed_of v }; among = last_among v.looks _; input_is = refl; tick_is = refl; saw_it = there }
+pub looked_seen : (v : View) (tick : ℕ) (present : Bool) → present ≡ true
+    → HasSeen (looked v tick present) tick
+looked_seen v tick present there =
+    record {
+      look = record {
+        input = v.shape.input;
+        tick = tick;
+        present = present;
+        closed = closed_of v;
+      };
+      among = last_among v.looks _;
+      input_is = refl;
+      tick_is = refl;
+      saw_it = there;
+    }
 
 -- ---- all inputs
 
@@ -84,12 +141,14 @@ grows_on (p ∷ ps) [] c f g = absurd f
 grows_on (p ∷ ps) (q ∷ qs) [] f g = absurd g
 grows_on (p ∷ ps) (q ∷ qs) (r ∷ rs) f g = (grows_then p q r f.0 g.0, grows_on ps qs rs f.1 g.1)
 
-pub grows_changed : (f : View → View) → ((p : SeatFace) → GrowsAt p (record p { view = f p.view })) → (i : ℕ) (pass : List SeatFace) → Grows pass (changed f i pass)
+pub grows_changed : (f : View → View) → ((p : SeatFace) → GrowsAt p (record p { view = f p.view }))
+    → (i : ℕ) (pass : List SeatFace) → Grows pass (changed f i pass)
 grows_changed f more i [] = tt
 grows_changed f more zero (p ∷ ps) = (more p, grows_still ps)
 grows_changed f more (suc i) (p ∷ ps) = (still_at p, grows_changed f more i ps)
 
-same_faces : (before after : List SeatFace) → Grows before after → map face_of after ≡ map face_of before
+same_faces : (before after : List SeatFace) → Grows before after
+    → map face_of after ≡ map face_of before
 same_faces [] [] f = refl
 same_faces [] (q ∷ qs) f = absurd f
 same_faces (p ∷ ps) [] f = absurd f
@@ -98,17 +157,23 @@ same_faces (p ∷ ps) (q ∷ qs) f = λ k. f.0.face k ∷ same_faces ps qs f.1 k
 pub stays_of_table : StaysOfTable
 stays_of_table table before after f is = same_faces before after f ∙ is
 
-pub grown_view : (P Q : View → Type 0) → ((p q : SeatFace) → GrowsAt p q → P p.view → Q q.view) → (before after : List SeatFace) → Grows before after → (input : ℕ) → HasView before input P → HasView after input Q
+pub grown_view : (P Q : View → Type 0) → ((p q : SeatFace) → GrowsAt p q → P p.view → Q q.view)
+    → (before after : List SeatFace) → Grows before after → (input : ℕ) → HasView before input P
+    → HasView after input Q
 grown_view P Q more [] after f input h = absurd h
 grown_view P Q more (p ∷ ps) [] f input h = absurd f
 grown_view P Q more (p ∷ ps) (q ∷ qs) f zero h = more p q f.0 h
 grown_view P Q more (p ∷ ps) (q ∷ qs) f (suc input) h = grown_view P Q more ps qs f.1 input h
 
 pub keeps_seen : KeepsSeen
-keeps_seen before after f input tick h = grown_view (λ v. HasSeen v tick) (λ v. HasSeen v tick) (λ p q g h. seen_on p q tick g h) before after f input h
+keeps_seen before after f input tick h =
+    grown_view (λ v. HasSeen v tick) (λ v. HasSeen v tick) (λ p q g h. seen_on p q tick g h) before
+    after f input h
 
 pub keeps_missed : KeepsMissed
-keeps_missed before after f input tick h = grown_view (λ v. HasMissed v tick) (λ v. HasMissed v tick) (λ p q g h. missed_on p q tick g h) before after f input h
+keeps_missed before after f input tick h =
+    grown_view (λ v. HasMissed v tick) (λ v. HasMissed v tick) (λ p q g h. missed_on p q tick g h)
+    before after f input h
 
 pub left_part : {A : Type 0} (P : A → Type 0) (xs ys : List A) → All P (xs ++ ys) → All P xs
 left_part P xs ys h = on_all P xs (xs ++ ys) (ys, refl) h
@@ -117,22 +182,33 @@ pub right_part : {A : Type 0} (P : A → Type 0) (xs ys : List A) → All P (xs 
 right_part P [] ys h = h
 right_part P (x ∷ xs) ys h = right_part P xs ys (λ k d lt. h (suc k) d (omega arith))
 
-looks_before : (P : Look → Type 0) (before after : List SeatFace) → Grows before after → All P (looks_of after) → All P (looks_of before)
+looks_before : (P : Look → Type 0) (before after : List SeatFace) → Grows before after
+    → All P (looks_of after) → All P (looks_of before)
 looks_before P [] [] f h = h
 looks_before P [] (q ∷ qs) f h = absurd f
 looks_before P (p ∷ ps) [] f h = absurd f
-looks_before P (p ∷ ps) (q ∷ qs) f h = All-append P p.view.looks (looks_of ps) (on_all P p.view.looks q.view.looks f.0.looks (left_part P q.view.looks (looks_of qs) h)) (looks_before P ps qs f.1 (right_part P q.view.looks (looks_of qs) h))
+looks_before P (p ∷ ps) (q ∷ qs) f h =
+    All-append P p.view.looks (looks_of ps)
+    (on_all P p.view.looks q.view.looks f.0.looks (left_part P q.view.looks (looks_of qs) h))
+    (looks_before P ps qs f.1 (right_part P q.view.looks (looks_of qs) h))
 
-heard_before : (P : Heard → Type 0) (before after : List SeatFace) → Grows before after → All P (heard_of after) → All P (heard_of before)
+heard_before : (P : Heard → Type 0) (before after : List SeatFace) → Grows before after
+    → All P (heard_of after) → All P (heard_of before)
 heard_before P [] [] f h = h
 heard_before P [] (q ∷ qs) f h = absurd f
 heard_before P (p ∷ ps) [] f h = absurd f
-heard_before P (p ∷ ps) (q ∷ qs) f h = All-append P p.view.heard (heard_of ps) (on_all P p.view.heard q.view.heard f.0.heard (left_part P q.view.heard (heard_of qs) h)) (heard_before P ps qs f.1 (right_part P q.view.heard (heard_of qs) h))
+heard_before P (p ∷ ps) (q ∷ qs) f h =
+    All-append P p.view.heard (heard_of ps)
+    (on_all P p.view.heard q.view.heard f.0.heard (left_part P q.view.heard (heard_of qs) h))
+    (heard_before P ps qs f.1 (right_part P q.view.heard (heard_of qs) h))
 
 pub agrees_before : AgreesBefore
 agrees_before d blocks before after f a = record {
-  seen = looks_before (λ l. l.present ≡ true → is_some (blocks l.input l.tick) ≡ true) before after f a.seen;
-  missed = looks_before (λ l. l.present ≡ false → l.tick < l.closed → blocks l.input l.tick ≡ None) before after f a.missed;
-  read = heard_before (λ h. sample_in (blocks h.input h.tick) h.place ≡ h.value) before after f a.read;
+  seen = looks_before (λ l. l.present ≡ true → is_some (blocks l.input l.tick) ≡ true) before after
+      f a.seen;
+  missed = looks_before (λ l. l.present ≡ false → l.tick < l.closed → blocks l.input l.tick ≡ None)
+      before after f a.missed;
+  read = heard_before (λ h. sample_in (blocks h.input h.tick) h.place ≡ h.value) before after f
+      a.read;
   shape = a.shape;
 }

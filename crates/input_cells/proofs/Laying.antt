@@ -1,5 +1,6 @@
 -- How the tables of the inputs are laid out.
-use Rattle.std.proofs.Common.{◌≡◌, ℕ, zero, suc, ◌+◌, ◌-◌, ◌*◌, ◌≤◌, List, [], ◌∷◌, length, take, replicate, refl, ◌∙◌, arith, mul-le-mul_right}
+use Rattle.std.proofs.Common.{◌≡◌, ℕ, zero, suc, ◌+◌, ◌-◌, ◌*◌, ◌≤◌, List, [], ◌∷◌, length, take}
+use Rattle.std.proofs.Common.{replicate, refl, ◌∙◌, arith, mul-le-mul_right}
 use Rattle.io_caps.specs.declared.port.Input.{Input}
 use Rattle.map_entry.specs.Row.{channels_of}
 use Rattle.input_rule.specs.declared.view.Shape.{Shape}
@@ -13,14 +14,17 @@ take_zeros (suc m) zero le = absurd (omega arith)
 take_zeros (suc m) (suc n) le = λ k. 0 ∷ take_zeros m n (omega arith) k
 
 -- the row begins with the table's words
-pub first_part : (shape : Shape) (row : List ℕ) → BeginsUnfed shape row → take (words_len shape) row ≡ first_words shape
+pub first_part : (shape : Shape) (row : List ℕ) → BeginsUnfed shape row
+    → take (words_len shape) row ≡ first_words shape
 first_part shape row b =
     let n : ℕ = shape.ticks + shape.ticks * block_len shape in
     let count : words_len shape ≡ suc n = omega arith in
-    (λ k. take (count k) (b.row_is k)) ∙ (λ k. shape.from ∷ take_zeros n b.rest (let l = b.long in omega arith) k)
+    (λ k. take (count k) (b.row_is k))
+    ∙ (λ k. shape.from ∷ take_zeros n b.rest (let l = b.long in omega arith) k)
 
 -- an input that is not there has no channels
-pub no_channels : (inputs : List Input) (input : ℕ) → length inputs ≤ input → channels_of inputs input ≡ 0
+pub no_channels : (inputs : List Input) (input : ℕ) → length inputs ≤ input
+    → channels_of inputs input ≡ 0
 no_channels [] input le = refl
 no_channels (i ∷ is) zero le = absurd (omega arith)
 no_channels (i ∷ is) (suc input) le = no_channels is input (omega arith)

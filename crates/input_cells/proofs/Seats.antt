@@ -14,35 +14,50 @@ use Rattle.input_rule.specs.Plays.{presence_tick, sample_place, sample_tick}
 use Rattle.input_cells.specs.Faces.{IsInput}
 
 -- there is a word for the closing number
-pub some_word : (key : Shape) (id : TableId) (shape : Shape) (block : ℕ) → IsInput key id shape block → 0 < id.words
-some_word key id shape block is = let w = is.words_are in let n : ℕ = shape.ticks * block_len shape in omega arith
+pub some_word : (key : Shape) (id : TableId) (shape : Shape) (block : ℕ)
+    → IsInput key id shape block → 0 < id.words
+some_word key id shape block is = let w = is.words_are in
+    let n : ℕ = shape.ticks * block_len shape in omega arith
 
-pub presence_back : (shape : Shape) (tick : ℕ) → HasTick shape tick → presence_tick shape (presence shape tick) ≡ tick
+pub presence_back : (shape : Shape) (tick : ℕ) → HasTick shape tick
+    → presence_tick shape (presence shape tick) ≡ tick
 presence_back shape tick inside = let a = inside.0 in omega arith
 
 -- a sample's word tells its tick and its place
-pub tick_back : (shape : Shape) (tick place : ℕ) → HasTick shape tick → place < block_len shape → sample_tick shape (block_start shape tick + place) ≡ tick
+pub tick_back : (shape : Shape) (tick place : ℕ) → HasTick shape tick → place < block_len shape
+    → sample_tick shape (block_start shape tick + place) ≡ tick
 tick_back shape tick place inside below =
     let row : ℕ = (tick - shape.from) * block_len shape in
     let offset : block_start shape tick + place - (1 + shape.ticks) ≡ row + place = omega arith in
-    let e : (block_start shape tick + place - (1 + shape.ticks)) / block_len shape ≡ tick - shape.from = ap (λ (n : ℕ). n / block_len shape) offset ∙ div-mul-add (tick - shape.from) (block_len shape) place below in
+    let e : (block_start shape tick + place - (1 + shape.ticks)) / block_len shape
+    ≡ tick - shape.from = ap (λ (n : ℕ). n / block_len shape) offset
+    ∙ div-mul-add (tick - shape.from) (block_len shape) place below in
     let a = inside.0 in omega arith
 
-pub place_back : (shape : Shape) (tick place : ℕ) → place < block_len shape → sample_place shape (block_start shape tick + place) ≡ place
+pub place_back : (shape : Shape) (tick place : ℕ) → place < block_len shape
+    → sample_place shape (block_start shape tick + place) ≡ place
 place_back shape tick place below =
     let row : ℕ = (tick - shape.from) * block_len shape in
     let offset : block_start shape tick + place - (1 + shape.ticks) ≡ row + place = omega arith in
-    ap (λ (n : ℕ). n % block_len shape) offset ∙ mod-mul-add (tick - shape.from) (block_len shape) place below
+    ap (λ (n : ℕ). n % block_len shape) offset ∙ mod-mul-add (tick - shape.from) (block_len shape)
+    place below
 
 -- what a look at a word tells, by its tick
-pub looked_at : (v : View) (tick word : ℕ) (present : Bool) → HasTick v.shape tick → word ≡ presence v.shape tick → looked v (presence_tick v.shape word) present ≡ looked v tick present
-looked_at v tick word present inside is = ap (λ (t : ℕ). looked v t present) (ap (presence_tick v.shape) is ∙ presence_back v.shape tick inside)
+pub looked_at : (v : View) (tick word : ℕ) (present : Bool) → HasTick v.shape tick
+    → word ≡ presence v.shape tick
+    → looked v (presence_tick v.shape word) present ≡ looked v tick present
+looked_at v tick word present inside is =
+    ap (λ (t : ℕ). looked v t present) (ap (presence_tick v.shape) is
+    ∙ presence_back v.shape tick inside)
 
 -- what a sample's word tells, by its tick and its place
-pub listened_at : (v : View) (tick place word : ℕ) (value result : ℤ) → HasTick v.shape tick → place < block_len v.shape → word ≡ block_start v.shape tick + place → value ≡ result
-    → listened v (sample_tick v.shape word) (sample_place v.shape word) value ≡ listened v tick place result
+pub listened_at : (v : View) (tick place word : ℕ) (value result : ℤ) → HasTick v.shape tick
+    → place < block_len v.shape → word ≡ block_start v.shape tick + place → value ≡ result
+    → listened v (sample_tick v.shape word) (sample_place v.shape word) value ≡ listened v tick
+    place result
 listened_at v tick place word value result inside below is same k =
-    listened v ((ap (sample_tick v.shape) is ∙ tick_back v.shape tick place inside below) k) ((ap (sample_place v.shape) is ∙ place_back v.shape tick place below) k) (same k)
+    listened v ((ap (sample_tick v.shape) is ∙ tick_back v.shape tick place inside below) k)
+    ((ap (sample_place v.shape) is ∙ place_back v.shape tick place below) k) (same k)
 
 -- a number of 32 bits is what its bits say
 pub whole : (z : ℤ) → mag z < 2 ^ 31 → to_z w32 (of_z w32 z) ≡ z

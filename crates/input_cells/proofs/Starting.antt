@@ -1,49 +1,69 @@
 -- The passes of a table that was just started.
-use Rattle.std.proofs.Common.{◌≡◌, ℕ, ◌+◌, List, [], ◌∷◌, length, map, get_or, replicate, refl, sym, ap, ◌∙◌, subst, arith, false}
+use Rattle.std.proofs.Common.{◌≡◌, ℕ, ◌+◌, List, [], ◌∷◌, length, map, get_or, replicate, refl, sym}
+use Rattle.std.proofs.Common.{ap, ◌∙◌, subst, arith, false}
 use Rattle.std.proofs.lemmas.List.{length-map}
 use Rattle.std.specs.Prelude.{Bool, Option, Some, is_none}
 use Rattle.std.specs.List.{All, AllZip}
 use Rattle.io_caps.specs.declared.device.DeviceParts.{DeviceParts}
 use Rattle.input_rule.specs.declared.view.Shape.{Shape}
-use Rattle.input_cells.specs.Faces.{AreFeeds, AreNumbered, InputFace, IsKept, SeatFace, face_of, unfed, unread}
+use Rattle.input_cells.specs.Faces.{AreFeeds, AreNumbered, InputFace, IsKept, SeatFace, face_of}
+use Rattle.input_cells.specs.Faces.{unfed, unread}
 use Rattle.input_cells.specs.Shapes.{IsTableOf, shape_of}
 use Rattle.input_cells.proofs.Agreeing.{range_at, range_long, shape_in}
 
-pub as_inputs : (d : DeviceParts) (from ticks : ℕ) (table : List InputFace) → IsTableOf d from ticks table → length table ≡ length d.inputs + 1
-as_inputs d from ticks table of_it = sym (length-map table (λ (t : InputFace). t.shape)) ∙ (ap (λ (l : List Shape). length l) of_it ∙ range_long (shape_of d from ticks) 0 (length d.inputs + 1))
+pub as_inputs : (d : DeviceParts) (from ticks : ℕ) (table : List InputFace)
+    → IsTableOf d from ticks table → length table ≡ length d.inputs + 1
+as_inputs d from ticks table of_it = sym (length-map table (λ (t : InputFace). t.shape))
+    ∙ (ap (λ (l : List Shape). length l) of_it
+    ∙ range_long (shape_of d from ticks) 0 (length d.inputs + 1))
 
-pub numbered_table : (d : DeviceParts) (from ticks : ℕ) (table : List InputFace) → IsTableOf d from ticks table → AreNumbered table
+pub numbered_table : (d : DeviceParts) (from ticks : ℕ) (table : List InputFace)
+    → IsTableOf d from ticks table → AreNumbered table
 numbered_table d from ticks table of_it k e lt =
     let n = as_inputs d from ticks table of_it in
-    ap (λ (z : Shape). z.input) (shape_in table k e ∙ (ap (λ (l : List Shape). get_or l k e.shape) of_it ∙ range_at (shape_of d from ticks) 0 (length d.inputs + 1) k e.shape (omega arith))) ∙ omega arith
+    ap (λ (z : Shape). z.input)
+    (shape_in table k e
+    ∙ (ap (λ (l : List Shape). get_or l k e.shape) of_it
+    ∙ range_at (shape_of d from ticks) 0 (length d.inputs + 1) k e.shape (omega arith)))
+    ∙ omega arith
 
 faces_unread : (table : List InputFace) → map face_of (map unread table) ≡ table
 faces_unread [] = refl
 faces_unread (t ∷ ts) = λ k. t ∷ faces_unread ts k
 
-all_kept : (table : List InputFace) → AllZip IsKept table (map (λ (t : InputFace). Some (unfed t)) table)
+all_kept : (table : List InputFace)
+    → AllZip IsKept table (map (λ (t : InputFace). Some (unfed t)) table)
 all_kept [] = tt
 all_kept (t ∷ ts) = (refl, all_kept ts)
 
-none_given : (table : List InputFace) → map is_none (map (λ (t : InputFace). Some (unfed t)) table) ≡ replicate (length table) false
+none_given : (table : List InputFace)
+    → map is_none (map (λ (t : InputFace). Some (unfed t)) table) ≡ replicate (length table) false
 none_given [] = refl
 none_given (t ∷ ts) = λ k. false ∷ none_given ts k
 
-module _ (table : List InputFace) (feeders : List (Option SeatFace)) (readers : List (List SeatFace)) (spare : List SeatFace) (most : ℕ) (f : feeders ≡ map (λ (t : InputFace). Some (unfed t)) table) (s : spare ≡ map unread table) where
-  pub table_is : map face_of spare ≡ table
-  table_is = ap (λ (l : List SeatFace). map face_of l) s ∙ faces_unread table
+module _ (table : List InputFace) (feeders : List (Option SeatFace))
+    (readers : List (List SeatFace)) (spare : List SeatFace) (most : ℕ)
+    (f : feeders ≡ map (λ (t : InputFace). Some (unfed t)) table) (s : spare ≡ map unread table)
+  where
+    pub table_is : map face_of spare ≡ table
+    table_is = ap (λ (l : List SeatFace). map face_of l) s ∙ faces_unread table
 
-  pub are_feeds : AreNumbered table → length readers ≡ most → All (λ r. r ≡ map unread table) readers → AreFeeds (map face_of spare) feeders readers spare most
-  are_feeds numbered many r = subst (λ (t : List InputFace). AreFeeds t feeders readers spare most) (sym table_is) (record {
-    spare_is = s;
-    feeders_are = subst (AllZip IsKept table) (sym f) (all_kept table);
-    readers_are = r;
-    few = omega arith;
-    numbered = numbered;
-  })
+    pub are_feeds : AreNumbered table → length readers ≡ most
+        → All (λ r. r ≡ map unread table) readers
+        → AreFeeds (map face_of spare) feeders readers spare most
+    are_feeds numbered many r =
+        subst (λ (t : List InputFace). AreFeeds t feeders readers spare most)
+        (sym table_is) (record {
+          spare_is = s;
+          feeders_are = subst (AllZip IsKept table) (sym f) (all_kept table);
+          readers_are = r;
+          few = omega arith;
+          numbered = numbered;
+        })
 
 -- the table that they are of
-pub spare_of : (table : List InputFace) (spare : List SeatFace) → spare ≡ map unread table → map face_of spare ≡ table
+pub spare_of : (table : List InputFace) (spare : List SeatFace) → spare ≡ map unread table
+    → map face_of spare ≡ table
 spare_of table spare is =
     ap (λ (l : List SeatFace). map face_of l) is ∙ faces_unread table
 

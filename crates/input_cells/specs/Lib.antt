@@ -5,3 +5,4 @@ pub mod Feeding
 pub mod Agreement
 pub mod Laws
 pub mod Sources
+pub mod Looking

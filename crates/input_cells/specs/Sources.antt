@@ -2,20 +2,37 @@
 use Rattle.std.specs.Prelude.{ℕ, ◌≡◌, Bool, List}
 use Rattle.input_cells.specs.Faces.{Grows, InputFace, SeatFace}
 
--- a lent pass: who lent it, its table, the tick, the flags of the inputs whose blocks it saw, and
--- what it knows
-pub record SeenFace : Type 0 where
+-- a lent pass: who lent it, its table, the tick, and what it knows
+pub record LentFace : Type 0 where
   pub lender : ℕ
   pub table : List InputFace
   pub tick : ℕ
-  pub flags : List Bool
   pub pass : List SeatFace
 
 -- it is the same pass at the same table and tick, and what it knows grew from all that it grew from
 -- before
-pub record StaysSeen (before after : SeenFace) : Type 0 where
+pub record StaysLent (before after : LentFace) : Type 0 where
   pub lender : after.lender ≡ before.lender
   pub table : after.table ≡ before.table
   pub tick : after.tick ≡ before.tick
-  pub flags : after.flags ≡ before.flags
   pub grows : (first : List SeatFace) → Grows first before.pass → Grows first after.pass
+
+-- a lent pass with the flags of the inputs whose blocks it saw
+pub record SeenFace : Type 0 where
+  pub lent : LentFace
+  pub flags : List Bool
+
+-- the pass and the flags stay
+pub record StaysSeen (before after : SeenFace) : Type 0 where
+  pub lent : StaysLent before.lent after.lent
+  pub flags : after.flags ≡ before.flags
+
+-- a lent pass with what it knew when it was lent
+pub record LookFace : Type 0 where
+  pub lent : LentFace
+  pub first : List SeatFace
+
+-- the pass stays, and what it knew when it was lent
+pub record StaysLooking (before after : LookFace) : Type 0 where
+  pub lent : StaysLent before.lent after.lent
+  pub first : after.first ≡ before.first

@@ -78,7 +78,7 @@ impl<'a> SeenSamples<'a> {
 
 impl<'a> Samples for SeenSamples<'a> {
     ghost use Rattle.input_cells.specs.Agreement.{AreHeard};
-    ghost use Rattle.input_cells.specs.Sources.{SeenFace, StaysSeen};
+    ghost use Rattle.input_cells.specs.Sources.{LentFace, SeenFace, StaysLent, StaysSeen};
     ghost use Rattle.std.specs.Prelude.{refl};
     ghost use Rattle.std.proofs.Common.{◌∙◌};
 
@@ -86,34 +86,37 @@ impl<'a> Samples for SeenSamples<'a> {
 
     ghost stays = { λ before after. StaysSeen
         (record {
-          lender = before.pass.ghost_name;
-          table = before.table.now;
-          tick = before.tick;
+          lent = record {
+            lender = before.pass.ghost_name;
+            table = before.table.now;
+            tick = before.tick;
+            pass = before.pass.now;
+          };
           flags = before.flags.now;
-          pass = before.pass.now;
         })
         (record {
-          lender = after.pass.ghost_name;
-          table = after.table.now;
-          tick = after.tick;
+          lent = record {
+            lender = after.pass.ghost_name;
+            table = after.table.now;
+            tick = after.tick;
+            pass = after.pass.now;
+          };
           flags = after.flags.now;
-          pass = after.pass.now;
         }) };
 
     ghost onward = { record {
       still = λ a. record {
-        lender = refl;
-        table = refl;
-        tick = refl;
+        lent = record { lender = refl; table = refl; tick = refl; grows = λ p h. h };
         flags = refl;
-        grows = λ p h. h;
       };
       on = λ a b c f g. record {
-        lender = g.lender ∙ f.lender;
-        table = g.table ∙ f.table;
-        tick = g.tick ∙ f.tick;
+        lent = record {
+          lender = g.lent.lender ∙ f.lent.lender;
+          table = g.lent.table ∙ f.lent.table;
+          tick = g.lent.tick ∙ f.lent.tick;
+          grows = λ p h. g.lent.grows p (f.lent.grows p h);
+        };
         flags = g.flags ∙ f.flags;
-        grows = λ p h. g.grows p (f.grows p h);
       };
     } };
 

@@ -4,7 +4,7 @@ ghost use Rattle.std.specs.Prelude.{◌≡◌, ◌+◌, ◌-◌, ◌<◌, ◌≤
 ghost use Rattle.std.specs.Prelude.{replicate};
 ghost use Rattle.io_caps.specs.declared.limits.TheConstants.{LAP_TICKS, MOST_WORKERS};
 ghost use Rattle.input_rule.specs.Words.{HasTick};
-ghost use Rattle.input_cells.specs.Faces.{HasShape};
+ghost use Rattle.input_cells.specs.Faces.{AreNumbered, HasShape};
 ghost use Rattle.input_cells.specs.Shapes.{IsTableOf};
 
 use crate::feeds::Feeds;
@@ -66,9 +66,11 @@ impl InputTable {
         };
         Ok((table, feeds))
     }
+
     /// How many inputs there are. The pace has the next number.
     pub fn inputs(&self) -> usize
-        ensures { result ≡ length self.now - 1 }
+        ensures value { result ≡ length self.now - 1 }
+        ensures numbered { AreNumbered self.now }
     {
         self.inputs.len().saturating_sub(1)
     }

@@ -1,10 +1,12 @@
 //! Tables worked by hand, and that no call gives up where there is memory.
 
-ghost use Rattle.std.specs.Prelude.{◌≡◌, ◌↔◌, ◌<◌, IfOk, IsTrue, OnOk, ℕ, length, map};
+ghost use Rattle.std.specs.Prelude.{◌≡◌, ◌↔◌, ◌<◌, ◌≤◌, IfOk, IsTrue, OnOk, ℕ, length, map};
+ghost use Rattle.io_caps.specs.declared.limits.TheConstants.{MOST_INPUTS};
 ghost use Rattle.input_rule.specs.Words.{HasTick};
 ghost use Rattle.packet_writer.specs.Packet.{FitOutput, RowFits, packet_length};
 ghost use Rattle.input_cells.specs.Agreement.{AreSeen};
 ghost use Rattle.input_cells.specs.Faces.{HasInput, HasShape, IsFeedOf, IsReadOf, face_of};
+ghost use Rattle.input_cells.specs.Looking.{HasTickEach};
 ghost use Rattle.input_cells.specs.Shapes.{IsTableOf};
 
 use super::*;
@@ -14,8 +16,9 @@ use io_caps::{
     Text, Width,
 };
 use map_entry::Cell;
-use packet_writer::{OneRow, packet_len, write_packet};
+use packet_writer::{OneRow, look_at_marked, packet_len, write_packet};
 use std::alloc::Global;
+use std::snapshot::Snapshot;
 use std::test::Fail;
 
 // ---- a device of an input and an output, of two channels each, with two frames a tick
@@ -144,10 +147,15 @@ enum Step {
     Set(u64, [i32; 4]),
     /// The feeder raises the closing number.
     Close(u64),
-    /// The reader loads the closing number, looks at a tick, and reads a sample of a tick: at a frame of a channel.
+    /// The reader loads the closing number, looks at a tick, and reads a sample of a tick: at a
+    /// frame of a channel.
     Closed,
     Look(u64),
     Sample(u64, u16, u8),
+    /// The reader looks as the packet writer does: wherever the closing number stands, or only at a
+    /// tick that is closed.
+    LookFree(u64),
+    LookClosed(u64),
 }
 
 /// What is told.
@@ -159,6 +167,8 @@ enum Told {
     /// The closing number of the feeder, or the one that the reader loaded.
     Closing(u64),
     There(bool),
+    /// It can't be told yet, by the closing number that the reader loaded.
+    Open(u64),
     Value(i32),
     /// It may not be asked.
     No,
@@ -166,6 +176,43 @@ enum Told {
 
 fn block(alloc: Global, samples: [i32; 4]) -> Result<Block, NoMemory> {
     Ok(Block::from_vec(Vec::from_array(alloc, samples)?))
+}
+
+/// Whether the table has just one input, and the tick.
+fn has_one_with(table: &InputTable, tick: u64) -> bool
+    ensures { IsTrue result → HasTickEach table.now tick }
+{
+    table.inputs() == 1 && table.has_tick(0, tick)
+}
+
+/// Looks at the marked inputs' blocks of a tick, wherever the closing numbers stand.
+fn look_free(table: &InputTable, reader: &mut ReadPass, tick: u64, flags: &mut [bool]) -> Option<u8>
+    requires reads { IsReadOf table.now reader.old }
+    requires tick { HasTickEach table.now tick }
+    requires few { length flags.old ≤ MOST_INPUTS }
+    ensures { IsReadOf table.now reader.new }
+{
+    let first = Snapshot::of(&*reader);
+    let mut looks = FreeLooks::new(table, reader, &first, tick);
+    look_at_marked(&mut looks, flags)
+}
+
+/// Looks at the marked inputs' blocks of a tick that is closed; tells the last closing number too.
+fn look_closed(
+    table: &InputTable,
+    reader: &mut ReadPass,
+    tick: u64,
+    flags: &mut [bool],
+) -> (Option<u8>, u64)
+    requires reads { IsReadOf table.now reader.old }
+    requires tick { HasTickEach table.now tick }
+    requires few { length flags.old ≤ MOST_INPUTS }
+    ensures { IsReadOf table.now reader.new }
+{
+    let first = Snapshot::of(&*reader);
+    let mut looks = ClosedLooks::new(table, reader, &first, tick);
+    let untold = look_at_marked(&mut looks, flags);
+    (untold, looks.closed)
 }
 
 impl Running {
@@ -213,6 +260,28 @@ impl Running {
         Told::Value(self.reader.sample(table, 0, tick, frame, channel))
     }
 
+    fn look_free(&mut self, tick: u64) -> Told {
+        if !has_one_with(&self.table, tick) {
+            return Told::No;
+        }
+        let mut flags = [true];
+        match look_free(&self.table, &mut self.reader, tick, &mut flags) {
+            None => Told::There(flags[0]),
+            Some(_) => Told::No,
+        }
+    }
+
+    fn look_closed(&mut self, tick: u64) -> Told {
+        if !has_one_with(&self.table, tick) {
+            return Told::No;
+        }
+        let mut flags = [true];
+        match look_closed(&self.table, &mut self.reader, tick, &mut flags) {
+            (None, _) => Told::There(flags[0]),
+            (Some(_), closed) => Told::Open(closed),
+        }
+    }
+
     fn take(&mut self, alloc: Global, step: Step) -> Result<Told, NoMemory> {
         Ok(match step {
             Step::Set(tick, samples) => self.set(tick, &block(alloc, samples)?),
@@ -220,6 +289,8 @@ impl Running {
             Step::Closed => self.closed(),
             Step::Look(tick) => self.look(tick),
             Step::Sample(tick, frame, channel) => self.sample(tick, frame, channel),
+            Step::LookFree(tick) => self.look_free(tick),
+            Step::LookClosed(tick) => self.look_closed(tick),
         })
     }
 }
@@ -228,14 +299,18 @@ impl Running {
 const FRAMES: [i32; 4] = [0x111100, 0x222200, 0x333300, 0x444400];
 
 /// A table of tick 0.
-const BY_HAND: [(Step, Told); 17] = [
+const BY_HAND: [(Step, Told); 22] = [
     (Step::Closed, Told::Closing(0)),
     (Step::Look(0), Told::There(false)),
     (Step::Look(1), Told::No),
+    (Step::LookFree(0), Told::There(false)),
+    (Step::LookClosed(0), Told::Open(0)),
     (Step::Sample(0, 1, 0), Told::No),
     (Step::Set(1, FRAMES), Told::No),
     (Step::Set(0, FRAMES), Told::Done),
     (Step::Look(0), Told::There(true)),
+    (Step::LookFree(0), Told::There(true)),
+    (Step::LookClosed(0), Told::Open(0)),
     (Step::Sample(0, 1, 0), Told::Value(3355392)),
     (Step::Sample(0, 0, 1), Told::Value(2236928)),
     (Step::Sample(0, 2, 0), Told::No),
@@ -246,6 +321,7 @@ const BY_HAND: [(Step, Told); 17] = [
     (Step::Closed, Told::Closing(1)),
     (Step::Close(0), Told::Closing(1)),
     (Step::Set(0, FRAMES), Told::No),
+    (Step::LookClosed(0), Told::There(true)),
 ];
 
 #[test]
@@ -259,13 +335,15 @@ fn input_table_by_hand(rt: HostRuntime) -> Result<(), Fail> {
 }
 
 /// A table of ticks 7 to 9.
-const THREE_TICKS: [(Step, Told); 11] = [
+const THREE_TICKS: [(Step, Told); 13] = [
     (Step::Closed, Told::Closing(7)),
     (Step::Look(6), Told::No),
     (Step::Set(9, [-1, i32::MIN, i32::MAX, 0]), Told::Done),
     (Step::Set(7, [5, 6, 7, 8]), Told::Done),
     (Step::Close(9), Told::Closing(9)),
     (Step::Look(8), Told::There(false)),
+    (Step::LookClosed(8), Told::There(false)),
+    (Step::LookClosed(9), Told::Open(9)),
     (Step::Sample(9, 0, 0), Told::Value(-1)),
     (Step::Sample(9, 0, 1), Told::Value(i32::MIN)),
     (Step::Sample(9, 1, 0), Told::Value(i32::MAX)),

@@ -1,4 +1,5 @@
-use Rattle.input_cells.proofs.Growing.{agrees_before, grows_on, keeps_missed, keeps_seen, stays_of_table}
+use Rattle.input_cells.proofs.Growing.{agrees_before, grows_on, keeps_missed, keeps_seen}
+use Rattle.input_cells.proofs.Growing.{stays_of_table}
 use Rattle.input_cells.proofs.laws.passes_grow.Goals as goal
 
 pub returns-clause-on : goal.returns-clause-on

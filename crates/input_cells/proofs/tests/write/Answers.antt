@@ -7,4 +7,5 @@ use Rattle.input_cells.proofs.tests.write.Goals as goal
 pub write_packet-requires-clause-rows : goal.write_packet-requires-clause-rows
 write_packet-requires-clause-rows c frame lt =
     let d = c.args.device.now in
-    subst (λ (row : List Cell). RowFits d.inputs (channels_of_output d 0) row) (sym (c.new.ensures.row frame)) (c.requires.row frame lt)
+    subst (λ (row : List Cell). RowFits d.inputs (channels_of_output d 0) row)
+    (sym (c.new.ensures.row frame)) (c.requires.row frame lt)

@@ -18,12 +18,16 @@ join_seat-requires c = (
 
 pub load-requires : goal.load-requires
 load-requires c = (
-  c.join_seat.ensures.0 ∙ (seat_id _ _ _ _ c.self.view_is c.requires.table ∙ sym (ap (λ z. z.id) c.table.view_is)),
+  c.join_seat.ensures.0
+      ∙ (seat_id _ _ _ _ c.self.view_is c.requires.table ∙ sym (ap (λ z. z.id) c.table.view_is)),
   some_word _ _ _ _ c.table.invariant,
-  learns_allowed c.table.inside.table.shared.key _ _ _ 0 (ap (λ m. m.0.live) c.join_seat.ensures.2 ∙ c.self.invariant.0.live) (ap (λ m. m.0.feeds) c.join_seat.ensures.2 ∙ c.self.invariant.0.feeds),
+  learns_allowed c.table.inside.table.shared.key _ _ _ 0 (ap (λ m. m.0.live) c.join_seat.ensures.2
+      ∙ c.self.invariant.0.live) (ap (λ m. m.0.feeds) c.join_seat.ensures.2
+      ∙ c.self.invariant.0.feeds),
 )
 
 pub returns-clause-fits : goal.returns-clause-fits
 returns-clause-fits c =
-    subst (λ (z : View × View). AreTrue z.0 z.1) (λ k. ((c.self.view_is k).view, (c.reader.view_is k).view))
+    subst (λ (z : View × View). AreTrue z.0 z.1)
+    (λ k. ((c.self.view_is k).view, (c.reader.view_is k).view))
     (learned _ _ _ (ap (λ m. m.0) c.join_seat.ensures.2) c.load.ensures.2.1 c.load.ensures.2.2)

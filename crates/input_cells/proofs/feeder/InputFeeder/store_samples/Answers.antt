@@ -13,4 +13,5 @@ pub loop-place-preserved : goal.loop-place-preserved
 loop-place-preserved c =
     let fits : SFits w32 (get_or c.args.samples.now c.loop-place.place (pos 0)) = search rules in
     spell_more _ _ _ _ _ _ c.loop-place.invariant
-    (subst (λ (z : ℤ). StoresSample c.loop-place.self c.store_sample.new.self c.args.tick c.loop-place.place z) (to_z-of_z w32 _ fits) c.store_sample.ensures)
+    (subst (λ (z : ℤ). StoresSample c.loop-place.self c.store_sample.new.self c.args.tick
+    c.loop-place.place z) (to_z-of_z w32 _ fits) c.store_sample.ensures)

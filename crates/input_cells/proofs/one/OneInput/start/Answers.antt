@@ -9,11 +9,15 @@ use Rattle.input_cells.proofs.Laying.{first_part}
 use Rattle.input_cells.proofs.one.OneInput.start.Goals as goal
 
 pub of_words-requires : goal.of_words-requires
-of_words-requires c = subst (λ (ws : List ℕ). Keeps c.args.shape (opening ws [] (feeder c.args.shape (first_words c.args.shape)))) (sym (first_part c.args.shape c.args.row.now c.requires.row)) (opens c.args.shape)
+of_words-requires c =
+    subst (λ (ws : List ℕ).
+    Keeps c.args.shape (opening ws [] (feeder c.args.shape (first_words c.args.shape))))
+    (sym (first_part c.args.shape c.args.row.now c.requires.row)) (opens c.args.shape)
 
 pub invariant_of-result : goal.invariant_of-result
 invariant_of-result c =
     let me = c.in_ok-table.ensures.4 in (
-      subst IsFeeding (sym (ap (λ m. m.0) me)) (record { live = refl; feeds = refl; words = first_shown c.args.shape }),
+      subst IsFeeding (sym (ap (λ m. m.0) me))
+          (record { live = refl; feeds = refl; words = first_shown c.args.shape }),
       ap (λ m. m.1) me,
     )

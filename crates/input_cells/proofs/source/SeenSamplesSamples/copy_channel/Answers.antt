@@ -5,13 +5,16 @@ use Rattle.input_cells.proofs.Growing.{grows_on, stays_of_table}
 use Rattle.input_cells.proofs.source.SeenSamplesSamples.copy_channel.Goals as goal
 
 pub copy_channel-requires-clause-input : goal.copy_channel-requires-clause-input
-copy_channel-requires-clause-input c = (c.args.self.now.seen c.args.input (sym c.is_set.ensures ∙ c.if-is_set.true)).0
+copy_channel-requires-clause-input c =
+    (c.args.self.now.seen c.args.input (sym c.is_set.ensures ∙ c.if-is_set.true)).0
 
 pub copy_channel-requires-clause-tick : goal.copy_channel-requires-clause-tick
-copy_channel-requires-clause-tick c = (seen_of _ _ _ _ c.args.self.now.seen c.args.input (sym c.is_set.ensures ∙ c.if-is_set.true)).1
+copy_channel-requires-clause-tick c =
+    (seen_of _ _ _ _ c.args.self.now.seen c.args.input (sym c.is_set.ensures ∙ c.if-is_set.true)).1
 
 pub copy_channel-requires-clause-seen : goal.copy_channel-requires-clause-seen
-copy_channel-requires-clause-seen c = (seen_of _ _ _ _ c.args.self.now.seen c.args.input (sym c.is_set.ensures ∙ c.if-is_set.true)).2
+copy_channel-requires-clause-seen c =
+    (seen_of _ _ _ _ c.args.self.now.seen c.args.input (sym c.is_set.ensures ∙ c.if-is_set.true)).2
 
 pub invariant_of-self : goal.invariant_of-self
 invariant_of-self c = record {
@@ -21,7 +24,9 @@ invariant_of-self c = record {
 
 pub returns-then-is_set-clause-value : goal.returns-then-is_set-clause-value
 returns-then-is_set-clause-value c b h =
-    c.copy_channel.ensures.value (b c.args.input) (h.heard c.args.input (sym c.is_set.ensures ∙ c.if-is_set.true)) (c.requires.room b (heard_before _ _ _ _ b c.copy_channel.ensures.grows h))
+    c.copy_channel.ensures.value (b c.args.input)
+    (h.heard c.args.input (sym c.is_set.ensures ∙ c.if-is_set.true))
+    (c.requires.room b (heard_before _ _ _ _ b c.copy_channel.ensures.grows h))
 
 pub returns-then-is_set-clause-kept : goal.returns-then-is_set-clause-kept
 returns-then-is_set-clause-kept c b h = heard_before _ _ _ _ b c.copy_channel.ensures.grows h
@@ -29,14 +34,19 @@ returns-then-is_set-clause-kept c b h = heard_before _ _ _ _ b c.copy_channel.en
 pub returns-then-is_set-clause-stays : goal.returns-then-is_set-clause-stays
 returns-then-is_set-clause-stays c =
     record {
-      lender = refl;
-      table = refl;
-      tick = refl;
+      lent = record {
+        lender = refl;
+        table = refl;
+        tick = refl;
+        grows = λ first h. grows_on first _ _ h c.copy_channel.ensures.grows;
+      };
       flags = refl;
-      grows = λ first h. grows_on first _ _ h c.copy_channel.ensures.grows;
     }
 
 pub returns-else-is_set-clause-value : goal.returns-else-is_set-clause-value
 returns-else-is_set-clause-value c b h =
-    c.fill.ensures.after (λ y e. e) ∙ (sym (silent c.args.channels c.args.channel c.args.frame (length c.args.out.now))
-    ∙ ap (λ (o : Option (List ℤ)). channel_samples o c.args.channels c.args.channel c.args.frame (length c.args.out.now)) (sym (h.silent c.args.input (sym c.is_set.ensures ∙ c.if-is_set.false))))
+    c.fill.ensures.after (λ y e. e)
+    ∙ (sym (silent c.args.channels c.args.channel c.args.frame (length c.args.out.now))
+    ∙ ap (λ (o : Option (List ℤ)). channel_samples o c.args.channels c.args.channel c.args.frame
+    (length c.args.out.now))
+    (sym (h.silent c.args.input (sym c.is_set.ensures ∙ c.if-is_set.false))))

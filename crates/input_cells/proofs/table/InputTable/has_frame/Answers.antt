@@ -5,6 +5,9 @@ use Rattle.input_cells.proofs.table.InputTable.has_frame.Goals as goal
 
 pub returns : goal.returns
 returns c = (
-  λ yes_it. shape_there (λ (s : Shape). c.args.frame < s.frames) _ _ c.args.input _ c.self.view_is c.requires c.index.ensures (c.has_frame.ensures.0 yes_it),
-  λ there. c.has_frame.ensures.1 (one_shape (λ (s : Shape). c.args.frame < s.frames) _ _ c.args.input _ c.self.view_is c.index.ensures there),
+  λ yes_it. shape_there (λ (s : Shape). c.args.frame < s.frames) _ _ c.args.input _ c.self.view_is
+      c.requires c.index.ensures (c.has_frame.ensures.0 yes_it),
+  λ there. c.has_frame.ensures.1
+      (one_shape (λ (s : Shape). c.args.frame < s.frames) _ _ c.args.input _ c.self.view_is
+      c.index.ensures there),
 )
