@@ -1,11 +1,13 @@
 -- Which claims workers drew.
-use Rattle.std.proofs.Common.{◌≡◌, ℕ, zero, suc, ◌+◌, ◌*◌, ◌<◌, ◌≤◌, Bool, true, false, eqb, ltb, List, [], ◌∷◌, ◌++◌, length, get_or, Option, Some, None, inl, inr, refl, sym, ap, subst, ◌∙◌, arith, length-append}
-use Rattle.std.specs.Prelude.{cond, is_some, IsSomeAnd, IfSome, filter_map, if◌then◌else◌, option_map}
+use Rattle.std.proofs.Common.{◌≡◌, ℕ, ◌+◌, ◌*◌, ◌<◌, ◌≤◌, Bool, true, false, eqb, ltb, List, [], ◌∷◌, ◌++◌}
+use Rattle.std.proofs.Common.{length, get_or, Option, Some, None, inl, inr, refl, sym, ap, subst, ◌∙◌, arith, length-append}
+use Rattle.std.specs.Prelude.{cond, is_some, IsSomeAnd, if◌then◌else◌}
 use Rattle.std.specs.Option.{option_or}
 use Rattle.std.proofs.Math.Seq.{get_or-append_seam}
 use Rattle.std.proofs.lemmas.Bool.{cases_Bool, cases_lt, eq-eqb, eqb-true, ne_eqb, false≢true}
 use Rattle.std.proofs.lemmas.List.{append-nil, get_or_append_left}
 use Rattle.std.proofs.lemmas.List.Elements.{filter_map-append}
+use Rattle.list_laws.proofs.Options.{option_or-None, option_or-assoc}
 use Rattle.map_entry.specs.Setup.{SetupParts}
 use Rattle.interleavings.specs.declared.events.Event.{Event}
 use Rattle.interleavings.specs.declared.events.Event.TheVariants.{Claim, Look, Set, Close, Call}
@@ -13,16 +15,18 @@ use Rattle.interleavings.specs.declared.events.Answer.{Answer}
 use Rattle.interleavings.specs.declared.events.Answer.TheVariants.{AlreadySet, Claimed, Closed, Done, Over}
 use Rattle.interleavings.specs.declared.events.Taken.{Taken}
 use Rattle.interleavings.specs.Events.{IsRun, answer_of, block_in, claims_in, drawn, drawn_by, is_claim_of, is_closed, latest_of, look_answer, taken}
-use Rattle.interleavings.specs.Run.{claimer, drawers, draws, worker_of}
-use Rattle.interleavings.proofs.Sights.{or_assoc, or_none}
+use Rattle.interleavings.specs.Run.{drawers, draws, worker_of}
 use Rattle.interleavings.proofs.Runs.{run_by, claims_more}
 
 pub some_same : {X : Type 0} {x y : X} → Some x ≡ Some y → x ≡ y
 some_same e = cc
 
-pub latest_more : (worker : ℕ) (before : List Taken) (t : Taken) → latest_of worker (before ++ t ∷ []) ≡ option_or (drawn_by worker t) (latest_of worker before)
-latest_more worker [] t = sym (or_none (drawn_by worker t))
-latest_more worker (b ∷ before) t = ap (λ (o : Option ℕ). option_or o (drawn_by worker b)) (latest_more worker before t) ∙ sym (or_assoc (drawn_by worker t) (latest_of worker before) (drawn_by worker b))
+pub latest_more : (worker : ℕ) (before : List Taken) (t : Taken)
+    → latest_of worker (before ++ t ∷ []) ≡ option_or (drawn_by worker t) (latest_of worker before)
+latest_more worker [] t = sym (option_or-None (drawn_by worker t))
+latest_more worker (b ∷ before) t =
+    ap (λ (o : Option ℕ). option_or o (drawn_by worker b)) (latest_more worker before t)
+    ∙ option_or-assoc (drawn_by worker t) (latest_of worker before) (drawn_by worker b)
 
 pub drawers_more : (before : List Taken) (t : Taken) → drawers (before ++ t ∷ []) ≡ drawers before ++ drawers (t ∷ [])
 drawers_more before t = filter_map-append draws before (t ∷ [])
@@ -34,8 +38,10 @@ drawn_by_none worker t none = elim (cases_Bool (is_claim_of worker t.event)) [
   | inr other ↦ rw other refl
 ]
 
-pub latest_kept : (worker : ℕ) (before : List Taken) (t : Taken) → drawn t.answer ≡ None → latest_of worker (before ++ t ∷ []) ≡ latest_of worker before
-latest_kept worker before t none = latest_more worker before t ∙ ap (λ (o : Option ℕ). option_or o (latest_of worker before)) (drawn_by_none worker t none)
+pub latest_kept : (worker : ℕ) (before : List Taken) (t : Taken) → drawn t.answer ≡ None
+    → latest_of worker (before ++ t ∷ []) ≡ latest_of worker before
+latest_kept worker before t none =
+    latest_more worker before t ∙ ap (λ (o : Option ℕ). option_or o (latest_of worker before)) (drawn_by_none worker t none)
 
 pub claims_kept : (before : List Taken) (t : Taken) → drawn t.answer ≡ None → claims_in (before ++ t ∷ []) ≡ claims_in before
 claims_kept before t none =
@@ -72,10 +78,14 @@ claimed before worker = taken (Claim worker) (Claimed (claims_in before))
 pub claims_one : (before : List Taken) (worker : ℕ) → claims_in (before ++ claimed before worker ∷ []) ≡ claims_in before + 1
 claims_one before worker = claims_more before (claimed before worker)
 
-pub worker_old : (before : List Taken) (t : Taken) (k : ℕ) → AreDrawn before → k < claims_in before → worker_of (before ++ t ∷ []) k ≡ worker_of before k
-worker_old before t k are lt = ap (λ (z : List ℕ). get_or z k 0) (drawers_more before t) ∙ get_or_append_left (drawers before) (drawers (t ∷ [])) 0 k (omega (arith, lt, are.long))
+pub worker_old : (before : List Taken) (t : Taken) (k : ℕ) → AreDrawn before → k < claims_in before
+    → worker_of (before ++ t ∷ []) k ≡ worker_of before k
+worker_old before t k are lt =
+    ap (λ (z : List ℕ). get_or z k 0) (drawers_more before t) ∙ get_or_append_left (drawers before) (drawers (t ∷ [])) 0 k
+    (omega (arith, lt, are.long))
 
-pub worker_new : (before : List Taken) (worker : ℕ) → AreDrawn before → worker_of (before ++ claimed before worker ∷ []) (claims_in before) ≡ worker
+pub worker_new : (before : List Taken) (worker : ℕ) → AreDrawn before
+    → worker_of (before ++ claimed before worker ∷ []) (claims_in before) ≡ worker
 worker_new before worker are =
     ap (λ (z : List ℕ). get_or z (claims_in before) 0) (drawers_more before (claimed before worker))
     ∙ ap (λ (k : ℕ). get_or (drawers before ++ worker ∷ []) k 0) (sym are.long)
@@ -86,7 +96,8 @@ latest_new before worker =
     let same : eqb worker worker ≡ true = eq-eqb worker worker refl in
     latest_more worker before (claimed before worker) ∙ rw same refl
 
-pub latest_other : (before : List Taken) (worker other : ℕ) → (other ≡ worker → ⊥) → latest_of other (before ++ claimed before worker ∷ []) ≡ latest_of other before
+pub latest_other : (before : List Taken) (worker other : ℕ) → (other ≡ worker → ⊥)
+    → latest_of other (before ++ claimed before worker ∷ []) ≡ latest_of other before
 latest_other before worker other apart =
     let no : eqb worker other ≡ false = ne_eqb worker other (λ e. apart (sym e)) in
     latest_more other before (claimed before worker) ∙ rw no refl
@@ -115,7 +126,8 @@ drawn_more before worker are =
             elim (cases_Bool (eqb worker (worker_of before k))) [
               | inl own ↦
                   let e : worker ≡ worker_of before k = eqb-true worker (worker_of before k) own in
-                  let late : latest_of (worker_of after k) after ≡ Some n = ap (λ (x : ℕ). latest_of x after) (same ∙ sym e) ∙ latest_new before worker in
+                  let late : latest_of (worker_of after k) after ≡ Some n = ap (λ (x : ℕ). latest_of x after) (same ∙ sym e)
+                  ∙ latest_new before worker in
                   rw late (omega (arith, old))
               | inr other ↦
                   let apart : worker_of before k ≡ worker → ⊥ = (λ e. false≢true (sym other ∙ eq-eqb worker (worker_of before k) (sym e))) in
@@ -123,12 +135,14 @@ drawn_more before worker are =
             ]
         | inr new ↦
             let here : k ≡ n = omega (arith, lt, one, new) in
-            let late : latest_of (worker_of after k) after ≡ Some n = ap (λ (x : ℕ). latest_of (worker_of after x) after) here ∙ ap (λ (x : ℕ). latest_of x after) (worker_new before worker are) ∙ latest_new before worker in
+            let late : latest_of (worker_of after k) after ≡ Some n = ap (λ (x : ℕ). latest_of (worker_of after x) after) here
+            ∙ ap (λ (x : ℕ). latest_of x after) (worker_new before worker are) ∙ latest_new before worker in
             rw late (omega (arith, here))
       ];
     }
 
-claim_drawn : (before : List Taken) (worker : ℕ) (b : Bool) → AreDrawn before → AreDrawn (before ++ taken (Claim worker) (if b then Claimed (claims_in before) else Over) ∷ [])
+claim_drawn : (before : List Taken) (worker : ℕ) (b : Bool) → AreDrawn before
+    → AreDrawn (before ++ taken (Claim worker) (if b then Claimed (claims_in before) else Over) ∷ [])
 claim_drawn before worker true are = drawn_more before worker are
 claim_drawn before worker false are = undrawn before (taken (Claim worker) Over) refl are
 
@@ -141,11 +155,15 @@ set_undrawn true b = refl
 set_undrawn false true = refl
 set_undrawn false false = refl
 
-more_drawn : (s : SetupParts) (ticks : ℕ) (before : List Taken) (event : Event) → AreDrawn before → AreDrawn (before ++ taken event (answer_of s ticks before event) ∷ [])
+more_drawn : (s : SetupParts) (ticks : ℕ) (before : List Taken) (event : Event) → AreDrawn before
+    → AreDrawn (before ++ taken event (answer_of s ticks before event) ∷ [])
 more_drawn s ticks before (Claim worker) are = claim_drawn before worker (ltb (claims_in before) (ticks * length s.device.outputs)) are
-more_drawn s ticks before (Look worker input) are = undrawn before (taken (Look worker input) (look_answer s before input (latest_of worker before))) (look_undrawn s before input (latest_of worker before)) are
+more_drawn s ticks before (Look worker input) are =
+    undrawn before (taken (Look worker input) (look_answer s before input (latest_of worker before)))
+    (look_undrawn s before input (latest_of worker before)) are
 more_drawn s ticks before (Set input tick block) are =
-    undrawn before (taken (Set input tick block) (answer_of s ticks before (Set input tick block))) (set_undrawn (is_some (block_in before input tick)) (is_closed before input tick)) are
+    undrawn before (taken (Set input tick block) (answer_of s ticks before (Set input tick block)))
+    (set_undrawn (is_some (block_in before input tick)) (is_closed before input tick)) are
 more_drawn s ticks before (Close input upto) are = undrawn before (taken (Close input upto) Done) refl are
 more_drawn s ticks before (Call client request) are = undrawn before (taken (Call client request) (answer_of s ticks before (Call client request))) refl are
 
@@ -153,4 +171,7 @@ none_drawn : AreDrawn []
 none_drawn = record { long = refl; own = λ worker k is. absurd cc; upto = λ k lt. absurd (omega (arith, lt)) }
 
 pub are_drawn : (s : SetupParts) (ticks : ℕ) (events : List Taken) → IsRun s ticks events → AreDrawn events
-are_drawn s ticks events run = run_by s ticks AreDrawn none_drawn (λ before t so_far is are. subst (λ (a : Answer). AreDrawn (before ++ taken t.event a ∷ [])) (sym is) (more_drawn s ticks before t.event are)) events run
+are_drawn s ticks events run =
+    run_by s ticks AreDrawn none_drawn
+    (λ before t so_far is are. subst (λ (a : Answer). AreDrawn (before ++ taken t.event a ∷ [])) (sym is) (more_drawn s ticks before t.event are))
+    events run

@@ -1,5 +1,6 @@
 -- A journal that is made that of the book.
-use Rattle.std.proofs.Common.{◌≡◌, ℕ, zero, suc, ◌+◌, ◌≤◌, List, [], ◌∷◌, ◌++◌, length, set, take, Option, Some, None, refl, sym, ap, ◌∙◌, arith}
+use Rattle.std.proofs.Common.{◌≡◌, ℕ, zero, suc, ◌+◌, ◌≤◌, List, [], ◌∷◌, ◌++◌, length, set, take, Option, Some, None, refl}
+use Rattle.std.proofs.Common.{sym, ap, ◌∙◌, arith}
 use Rattle.std.specs.Prelude.{IfSome, slice_get}
 use Rattle.std.specs.Option.{option_to_list}
 use Rattle.std.proofs.lemmas.List.{nil_from_length}
@@ -10,7 +11,8 @@ use Rattle.plain_book.specs.Book.{call_of, reply_of}
 use Rattle.plain_book.proofs.Giving.{call_parts}
 use Rattle.interleavings.proofs.Ranging.{both}
 
-pub put_right : {X : Type 0} (xs ys : List X) (n : ℕ) (y : X) → length xs ≡ n + 1 → length ys ≤ n + 1 → take n xs ≡ take n ys → slice_get ys n ≡ Some y → set xs n y ≡ ys
+pub put_right : {X : Type 0} (xs ys : List X) (n : ℕ) (y : X) → length xs ≡ n + 1 → length ys ≤ n + 1 → take n xs ≡ take n ys
+    → slice_get ys n ≡ Some y → set xs n y ≡ ys
 put_right [] ys n y long few same is = absurd (omega (arith, long))
 put_right (x ∷ xs) [] n y long few same is = absurd cc
 put_right {X} (x ∷ xs) (z ∷ ys) zero y long few same is =
@@ -32,12 +34,15 @@ last_of P [] None h = tt
 last_of P [] (Some x) h = h
 last_of P (x ∷ xs) o h = last_of P xs o h
 
-if_call : (s : SetupParts) (journal : List JournalCall) (client claims : ℕ) (request copy : Request) (o : Option JournalCall) → copy ≡ request → call_of s journal client claims request (reply_of s journal claims request) ≡ o → IfSome o (λ call. call.request ≡ copy)
+if_call : (s : SetupParts) (journal : List JournalCall) (client claims : ℕ) (request copy : Request) (o : Option JournalCall) → copy ≡ request
+    → call_of s journal client claims request (reply_of s journal claims request) ≡ o → IfSome o (λ call. call.request ≡ copy)
 if_call s journal client claims request copy None same e = tt
-if_call s journal client claims request copy (Some call) same e = (call_parts s journal client claims request (reply_of s journal claims request) call e).asks ∙ sym same
+if_call s journal client claims request copy (Some call) same e =
+    (call_parts s journal client claims request (reply_of s journal claims request) call e).asks ∙ sym same
 
 pub asks_it : (s : SetupParts) (journal : List JournalCall) (client claims : ℕ) (request copy : Request) → copy ≡ request
-    → IfSome (slice_get (journal ++ option_to_list (call_of s journal client claims request (reply_of s journal claims request))) (length journal)) (λ call. call.request ≡ copy)
+    → IfSome (slice_get (journal ++ option_to_list (call_of s journal client claims request (reply_of s journal claims request))) (length journal))
+    (λ call. call.request ≡ copy)
 asks_it s journal client claims request copy same =
     let o : Option JournalCall = call_of s journal client claims request (reply_of s journal claims request) in
     last_of (λ call. call.request ≡ copy) journal o (if_call s journal client claims request copy o same refl)

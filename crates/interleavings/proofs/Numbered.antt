@@ -7,15 +7,13 @@ use Rattle.std.proofs.lemmas.Bool.{cases_Bool, cases_lt, eq-eqb, ne_eqb, false�
 use Rattle.std.proofs.lemmas.List.Elements.{recursion_from_All}
 use Rattle.std.proofs.lemmas.List.Sums.{sum_by-append}
 use Rattle.std.proofs.lemmas.List.Sorted.{sum_by-IsPermutation}
+use Rattle.list_laws.proofs.Items.{count_by-append}
 use Rattle.plain_book.specs.declared.history.ClaimItem.{ClaimItem}
 
 -- ---- counts
 
 pub count_cons : {X : Type 0} (p : X → Bool) (x : X) (xs : List X) → count_by p (x ∷ xs) ≡ cond {A = ℕ} (p x) 1 0 + count_by p xs
 count_cons {X} p x xs = omega (arith, sum_by-append (λ (y : X). cond {A = ℕ} (p y) 1 0) (x ∷ []) xs)
-
-pub count_append : {X : Type 0} (p : X → Bool) (xs ys : List X) → count_by p (xs ++ ys) ≡ count_by p xs + count_by p ys
-count_append {X} p xs ys = omega (arith, sum_by-append (λ (y : X). cond {A = ℕ} (p y) 1 0) xs ys)
 
 pub hit : (b : Bool) → b ≡ true → cond {A = ℕ} b 1 0 ≡ 1
 hit b h = rw h refl
@@ -72,12 +70,12 @@ counted_shuffled low high xs ys moved is = record {
 pub counted_then : (low mid high : ℕ) (xs ys : List ClaimItem) → low ≤ mid → mid ≤ high → AreCounted low mid xs → AreCounted mid high ys → AreCounted low high (xs ++ ys)
 counted_then low mid high xs ys up more first second = record {
   one = λ k from to. elim (cases_lt k mid) [
-    | inl here ↦ omega (arith, count_append (has_number k) xs ys, first.one k from here, second.none k (inl here))
-    | inr there ↦ omega (arith, count_append (has_number k) xs ys, first.none k (inr there), second.one k there to)
+    | inl here ↦ omega (arith, count_by-append (has_number k) xs ys, first.one k from here, second.none k (inl here))
+    | inr there ↦ omega (arith, count_by-append (has_number k) xs ys, first.none k (inr there), second.one k there to)
   ];
   none = λ k out. elim out [
-    | inl below ↦ omega (arith, count_append (has_number k) xs ys, first.none k (inl below), second.none k (inl (omega (arith, below, up))))
-    | inr above ↦ omega (arith, count_append (has_number k) xs ys, first.none k (inr (omega (arith, above, more))), second.none k (inr above))
+    | inl below ↦ omega (arith, count_by-append (has_number k) xs ys, first.none k (inl below), second.none k (inl (omega (arith, below, up))))
+    | inr above ↦ omega (arith, count_by-append (has_number k) xs ys, first.none k (inr (omega (arith, above, more))), second.none k (inr above))
   ];
 }
 

@@ -4,7 +4,7 @@ use Rattle.std.specs.Prelude.{All, IfSome, ◌&&◌, cond, is_some, option_map, 
 use Rattle.std.specs.List.{AllByRecursion}
 use Rattle.std.specs.Option.{option_map_or, option_to_list}
 use Rattle.std.proofs.Math.Seq.{take-append_seam, drop-append_seam}
-use Rattle.std.proofs.lemmas.Bool.{cases_Bool, cases_lt, eqb-true, ne_eqb, false≢true}
+use Rattle.std.proofs.lemmas.Bool.{cases_Bool, cases_lt, eqb-true, ne_eqb, false≢true, and_right}
 use Rattle.std.proofs.lemmas.List.{append-nil}
 use Rattle.std.proofs.lemmas.List.Elements.{All-append, All-cons, All-nil}
 use Rattle.std.proofs.lemmas.Option.{slice_get_within}
@@ -204,10 +204,6 @@ makers_skip number client g gs miss = omega (arith, makers_cons number client g 
 first_miss : (a b : Bool) → a ≡ false → (a && b) ≡ false
 first_miss a b e = rw e refl
 
-last_miss : (a b : Bool) → b ≡ false → (a && b) ≡ false
-last_miss true b e = e
-last_miss false b e = refl
-
 no_makers : (s : SetupParts) (before : List JournalCall) (low : ℕ) (given : List Given) (after : List JournalCall) (high : ℕ) → AreGiven s before low given after high
     → (number client : ℕ) → number < length before → makers number (given_to client given) ≡ 0
 no_makers s before low [] after high is number client lt = refl
@@ -259,7 +255,7 @@ made_or_not s before low g gs after high is number client call here at (Some mad
 made_or_not s before low g gs after high is number client call here at None e rest =
     let none : accepts g.reply ≡ false = sym (given_accepts s before low g is.0) ∙ ap is_some e in
     let same : length (journal_after s before g) ≡ length before = after_length s before low g is.0 ∙ ap (λ (b : Bool). length before + cond b 1 0) none ∙ (omega arith) in
-    makers_skip number client g gs (last_miss (eqb g.stamp.calls number) (accepts g.reply) none) ∙ rest (omega (arith, same, here))
+    makers_skip number client g gs (and_right (eqb g.stamp.calls number) (accepts g.reply) none) ∙ rest (omega (arith, same, here))
 
 -- the call of each number behind these was made by one answer, which is one of its own client
 pub one_maker : (s : SetupParts) (before : List JournalCall) (low : ℕ) (given : List Given) (after : List JournalCall) (high : ℕ) → AreGiven s before low given after high

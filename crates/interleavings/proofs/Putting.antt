@@ -1,5 +1,6 @@
 -- Where a reply stands among those in order, when the last ones are looked at first.
-use Rattle.std.proofs.Common.{◌≡◌, ℕ, zero, suc, ◌+◌, ◌-◌, ◌<◌, ◌≤◌, ◌⊎◌, Bool, true, false, List, [], ◌∷◌, length, Option, Some, None, inl, inr, refl, sym, ap, ◌∙◌, arith}
+use Rattle.std.proofs.Common.{◌≡◌, ℕ, zero, suc, ◌+◌, ◌-◌, ◌<◌, ◌≤◌, ◌⊎◌, Bool, true, false, List, [], ◌∷◌, length}
+use Rattle.std.proofs.Common.{Option, Some, None, inl, inr, refl, sym, ap, ◌∙◌, arith}
 use Rattle.std.specs.Prelude.{IfSome, slice_get}
 use Rattle.std.specs.List.{AllByRecursion, insert}
 use Rattle.plain_book.specs.declared.history.ReplyItem.{ReplyItem}
@@ -18,13 +19,15 @@ trans_cases x y z (inr (p, inr (a, low))) (inr (q, inr (b, high))) = inr (omega 
 no_later_trans : (x y z : ReplyItem) → IsNoLater x y → IsNoLater y z → IsNoLater x z
 no_later_trans x y z first second = no_later-from x z (trans_cases x y z (no_later-cases x y first) (no_later-cases y z second))
 
-each_no_later : (x : ReplyItem) (xs : List ReplyItem) (n : ℕ) (y : ReplyItem) → AllByRecursion (IsNoLater x) xs → slice_get xs n ≡ Some y → IsNoLater x y
+each_no_later : (x : ReplyItem) (xs : List ReplyItem) (n : ℕ) (y : ReplyItem) → AllByRecursion (IsNoLater x) xs → slice_get xs n ≡ Some y
+    → IsNoLater x y
 each_no_later x [] n y all at = absurd cc
 each_no_later x (z ∷ xs) zero y all at = let same : z ≡ y = cc in rw (sym same) all.0
 each_no_later x (z ∷ xs) (suc n) y all at = each_no_later x xs n y all.1 at
 
 -- where the reply at a place of these in order may stand before another, the first may
-first_no_later : (x item : ReplyItem) (xs : List ReplyItem) (n : ℕ) (y : ReplyItem) → AreInOrder (x ∷ xs) → slice_get (x ∷ xs) n ≡ Some y → IsNoLater y item → IsNoLater x item
+first_no_later : (x item : ReplyItem) (xs : List ReplyItem) (n : ℕ) (y : ReplyItem) → AreInOrder (x ∷ xs) → slice_get (x ∷ xs) n ≡ Some y
+    → IsNoLater y item → IsNoLater x item
 first_no_later x item xs zero y order at before = let same : x ≡ y = cc in rw same before
 first_no_later x item xs (suc n) y order at before = no_later_trans x y item (each_no_later x xs n y order.0 at) before
 
@@ -51,7 +54,8 @@ pub behind_none : (replies : List ReplyItem) (item : ReplyItem) (at : ℕ) → a
 behind_none replies item zero none = tt
 behind_none replies item (suc n) none = absurd (omega (arith, none))
 
-pub behind_one : (replies : List ReplyItem) (item y : ReplyItem) (at : ℕ) → 0 < at → slice_get replies (at - 1) ≡ Some y → comes_before item y ≡ false → IsBehind replies item at
+pub behind_one : (replies : List ReplyItem) (item y : ReplyItem) (at : ℕ) → 0 < at → slice_get replies (at - 1) ≡ Some y
+    → comes_before item y ≡ false → IsBehind replies item at
 behind_one replies item y zero some at later = absurd (omega (arith, some))
 behind_one replies item y (suc n) some at later =
     let below : suc n - 1 ≡ n = omega arith in

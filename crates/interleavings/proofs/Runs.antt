@@ -1,11 +1,12 @@
 -- Runs of events, one more event at a time.
-use Rattle.std.proofs.Common.{◌≡◌, ℕ, zero, suc, ◌+◌, ◌<◌, ◌≤◌, ◌⊎◌, inl, inr, List, [], ◌∷◌, ◌++◌, length, get_or, take, Option, Some, None, refl, ap, ◌∙◌, subst, arith}
+use Rattle.std.proofs.Common.{◌≡◌, ℕ, zero, suc, ◌+◌, ◌<◌, ◌≤◌, inl, inr, List, [], ◌∷◌, ◌++◌, length, get_or, take, Option, Some, None, refl, ap, ◌∙◌, subst, arith}
 use Rattle.std.specs.Prelude.{slice_get, cond, is_some}
 use Rattle.std.specs.Option.{option_to_list}
 use Rattle.std.proofs.lemmas.List.{take-append-le, take_all, take_more, take-take}
 use Rattle.std.proofs.Math.Seq.{take-append_seam}
 use Rattle.std.proofs.lemmas.List.Sums.{sum_by-append}
 use Rattle.std.proofs.lemmas.Option.{get_or_from_slice_get}
+use Rattle.list_laws.proofs.Items.{slice_get-push}
 use Rattle.map_entry.specs.Setup.{SetupParts}
 use Rattle.plain_book.specs.declared.calls.JournalCall.{JournalCall}
 use Rattle.plain_book.proofs.Lists.{slice_get_take}
@@ -60,20 +61,10 @@ journal_more s before t = from_more s [] before t
 
 -- ---- runs made of events
 
-at_end : {X : Type 0} (xs : List X) (y : X) (k : ℕ) (x : X) → slice_get (xs ++ y ∷ []) k ≡ Some x
-    → ((slice_get xs k ≡ Some x) × (k < length xs)) ⊎ ((k ≡ length xs) × (y ≡ x))
-at_end [] y zero x e = let same : y ≡ x = cc in inr (refl, same)
-at_end [] y (suc k) x e = absurd cc
-at_end (z ∷ xs) y zero x e = inl (e, omega arith)
-at_end (z ∷ xs) y (suc k) x e = elim (at_end xs y k x e) [
-  | inl old ↦ inl (old.0, let w = old.1 in omega (arith, w))
-  | inr new ↦ inr (ap suc new.0, new.1)
-]
-
 -- one more event with the answer that it is given
 pub run_more : (s : SetupParts) (ticks : ℕ) (before : List Taken) (t : Taken) → IsRun s ticks before → t.answer ≡ answer_of s ticks before t.event
     → IsRun s ticks (before ++ t ∷ [])
-run_more s ticks before t run is k x e = elim (at_end before t k x e) [
+run_more s ticks before t run is k x e = elim (slice_get-push before t k x e) [
   | inl old ↦ rw (take-append-le k before (t ∷ []) (let w = old.1 in omega (arith, w))) (run k x old.0)
   | inr new ↦
       let whole : take k (before ++ t ∷ []) ≡ before = ap (λ (i : ℕ). take i (before ++ t ∷ [])) new.0 ∙ take-append_seam before (t ∷ []) in

@@ -23,7 +23,8 @@ use Rattle.interleavings.specs.Run.{claim_with, seen_flags}
 use Rattle.interleavings.proofs.Ranging.{alike}
 
 -- a flag by what was marked and what a look saw
-pub flag_is : (named there flag marked : Bool) → marked ≡ named → (marked ≡ true → flag ≡ there) → (marked ≡ false → flag ≡ false) → flag ≡ (named && there)
+pub flag_is : (named there flag marked : Bool) → marked ≡ named → (marked ≡ true → flag ≡ there) → (marked ≡ false → flag ≡ false)
+    → flag ≡ (named && there)
 flag_is true there flag marked is seen other = seen is
 flag_is false there flag marked is seen other = other is
 
@@ -33,7 +34,8 @@ when_none None none holds = holds
 when_none (Some a) none holds = absurd (false≢true (sym none))
 
 -- flags that are these at each input
-pub flags_are : (f : ℕ → Bool) (n : ℕ) (made : List Bool) → length made ≡ n → ((i : ℕ) → i < n → flag_of made i ≡ f i) → made ≡ map f (range_with_len 0 n)
+pub flags_are : (f : ℕ → Bool) (n : ℕ) (made : List Bool) → length made ≡ n → ((i : ℕ) → i < n → flag_of made i ≡ f i)
+    → made ≡ map f (range_with_len 0 n)
 flags_are f n made long each =
     ext_get_or false made (map f (range_with_len 0 n)) (long ∙ sym (length-map-range_with_len f 0 n))
     (λ i within.
@@ -48,12 +50,14 @@ rows_are s entries k output tick row is out at frame =
     (ap (λ (t : ℕ). selected entries (output_of_claim s k) t) (sym at) ∙ ap (λ (o : ℕ). selected entries o tick) (sym out) ∙ is)
 
 -- the block that was found has all frames where each block has
-pub found_whole : (channels frames : ℕ) (flag : Bool) (block : Option (List ℤ)) → HasFrames block channels frames → HasFrames (if flag then block else None) channels frames
+pub found_whole : (channels frames : ℕ) (flag : Bool) (block : Option (List ℤ)) → HasFrames block channels frames
+    → HasFrames (if flag then block else None) channels frames
 found_whole channels frames true block has = has
 found_whole channels frames false block has = tt
 
 -- a claim of these flags and this packet, by a journal
-pub claim_is : (s : SetupParts) (journal : List JournalCall) (blocks : Blocks) (seen : List Bool) (k : ℕ) (row : List Cell) (found : List Bool) (packet : List ℕ)
+pub claim_is : (s : SetupParts) (journal : List JournalCall) (blocks : Blocks) (seen : List Bool) (k : ℕ) (row : List Cell) (found : List Bool)
+    (packet : List ℕ)
     → HasRow s (entries_of s journal) k row
     → found ≡ map (λ input. is_named s.device.rate.frames (λ frame. row) input && flag_of seen input) (range_with_len 0 (length s.device.inputs))
     → packet ≡ packet_by s (entries_of s journal) blocks found k

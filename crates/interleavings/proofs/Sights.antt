@@ -5,6 +5,8 @@ use Rattle.std.specs.List.{range_with_len}
 use Rattle.std.specs.Option.{option_or}
 use Rattle.std.proofs.lemmas.Bool.{and_parts, and_from, or_cases, eqb-true, false≢true}
 use Rattle.std.proofs.lemmas.List.FromFn.{get_or-map-range_with_len, length-map-range_with_len}
+use Rattle.std.proofs.Math.Bool.{or_assoc}
+use Rattle.list_laws.proofs.Options.{option_or-None, option_or-assoc, option_or-Some}
 use Rattle.map_entry.specs.Setup.{SetupParts}
 use Rattle.packet_writer.specs.Flags.{AreFree, names_by}
 use Rattle.plain_book.specs.Book.{first_some}
@@ -19,17 +21,9 @@ use Rattle.interleavings.specs.Legal.{IsClaim, free_form}
 use Rattle.interleavings.specs.Run.{claim_in, has_seen, is_for, looks, saw, seen_flags, seen_from, sees_by, worker_of}
 use Rattle.interleavings.proofs.Runs.{run_by}
 
-pub or_assoc : {Y : Type 0} (a b c : Option Y) → option_or a (option_or b c) ≡ option_or (option_or a b) c
-or_assoc None b c = refl
-or_assoc (Some y) b c = refl
-
-pub or_none : {X : Type 0} (a : Option X) → option_or a None ≡ a
-or_none None = refl
-or_none (Some x) = refl
-
 first_some-append : {X Y : Type 0} (f : X → Option Y) (xs ys : List X) → first_some f (xs ++ ys) ≡ option_or (first_some f xs) (first_some f ys)
 first_some-append f [] ys = refl
-first_some-append {X} {Y} f (x ∷ xs) ys = ap (option_or (f x)) (first_some-append f xs ys) ∙ or_assoc (f x) (first_some f xs) (first_some f ys)
+first_some-append {X} {Y} f (x ∷ xs) ys = ap (option_or (f x)) (first_some-append f xs ys) ∙ sym (option_or-assoc (f x) (first_some f xs) (first_some f ys))
 
 -- the block that an event sets by its answer, where it sets one
 abbrev pub set_by : ℕ → ℕ → Taken → Option (List ℤ)
@@ -37,21 +31,13 @@ set_by input tick t = if is_done t.answer then block_by input tick t.event else 
 
 pub block_more : (before : List Taken) (t : Taken) (input tick : ℕ) → block_in (before ++ t ∷ []) input tick ≡ option_or (block_in before input tick) (set_by input tick t)
 block_more before t input tick =
-    first_some-append (set_by input tick) before (t ∷ []) ∙ ap (option_or (block_in before input tick)) (or_none (set_by input tick t))
-
-still : {Y : Type 0} (a b : Option Y) → is_some a ≡ true → is_some (option_or a b) ≡ true
-still None b h = absurd (false≢true h)
-still (Some y) b h = refl
+    first_some-append (set_by input tick) before (t ∷ []) ∙ ap (option_or (block_in before input tick)) (option_or-None (set_by input tick t))
 
 -- a block that is there stays
 pub block_stays : (before : List Taken) (t : Taken) (input tick : ℕ) → is_some (block_in before input tick) ≡ true → is_some (block_in (before ++ t ∷ []) input tick) ≡ true
-block_stays before t input tick there = ap is_some (block_more before t input tick) ∙ still (block_in before input tick) (set_by input tick t) there
+block_stays before t input tick there = ap is_some (block_more before t input tick) ∙ ap is_some (option_or-Some (block_in before input tick) (set_by input tick t) there) ∙ there
 
 -- ---- one more event
-
-either_assoc : (a b c : Bool) → (a || (b || c)) ≡ ((a || b) || c)
-either_assoc true b c = refl
-either_assoc false b c = refl
 
 or_false : (a : Bool) → (a || false) ≡ (false || a)
 or_false true = refl
@@ -63,8 +49,8 @@ seen_more s worker k input latest [] t = or_false (sees_by s worker k input late
 seen_more s worker k input latest (b ∷ before) t =
     ap (λ (x : Bool). sees_by s worker k input latest b || x)
     (seen_more s worker k input (option_or (drawn_by worker b) latest) before t
-    ∙ ap (λ (l : Option ℕ). seen_from s worker k input (option_or (drawn_by worker b) latest) before || sees_by s worker k input l t) (or_assoc (latest_of worker before) (drawn_by worker b) latest))
-    ∙ either_assoc (sees_by s worker k input latest b) (seen_from s worker k input (option_or (drawn_by worker b) latest) before) (sees_by s worker k input (option_or (option_or (latest_of worker before) (drawn_by worker b)) latest) t)
+    ∙ ap (λ (l : Option ℕ). seen_from s worker k input (option_or (drawn_by worker b) latest) before || sees_by s worker k input l t) (sym (option_or-assoc (latest_of worker before) (drawn_by worker b) latest)))
+    ∙ sym (or_assoc (sees_by s worker k input latest b) (seen_from s worker k input (option_or (drawn_by worker b) latest) before) (sees_by s worker k input (option_or (option_or (latest_of worker before) (drawn_by worker b)) latest) t))
 
 -- ---- what was seen is there
 
@@ -102,7 +88,7 @@ more_there s ticks before t is so_far worker k input seen =
       | inr new ↦
           let a = and_parts (looks worker input t.event) (saw t.answer && is_for s k latest) new in
           let b = and_parts (saw t.answer) (is_for s k latest) a.1 in
-          event_found s ticks before t.event t.answer worker k input is a.0 b.0 (sym (ap (is_for s k) (or_none (latest_of worker before))) ∙ b.1)
+          event_found s ticks before t.event t.answer worker k input is a.0 b.0 (sym (ap (is_for s k) (option_or-None (latest_of worker before))) ∙ b.1)
     ])
 
 pub seen_there : (s : SetupParts) (ticks : ℕ) (events : List Taken) → IsRun s ticks events → IsThere s events

@@ -1,18 +1,20 @@
 -- A claim stays as it is by every event but a look for it.
-use Rattle.std.proofs.Common.{◌≡◌, ℕ, ◌+◌, ◌<◌, ◌≤◌, Bool, true, false, eqb, ltb, List, [], ◌∷◌, ◌++◌, length, get_or, take, drop, map, Option, Some, None, inl, inr, refl, sym, ap, ◌∙◌, arith, zero-add}
-use Rattle.std.specs.Prelude.{◌&&◌, ◌||◌, All, IsSomeAnd, is_some, if◌then◌else◌, ℤ}
+use Rattle.std.proofs.Common.{◌≡◌, ℕ, ◌+◌, ◌<◌, ◌≤◌, Bool, true, false, eqb, ltb, List, [], ◌∷◌, ◌++◌, length, take}
+use Rattle.std.proofs.Common.{drop, map, Option, Some, None, inl, inr, refl, sym, ap, ◌∙◌, arith, zero-add}
+use Rattle.std.specs.Prelude.{◌&&◌, ◌||◌, All, is_some, if◌then◌else◌, ℤ}
 use Rattle.std.specs.List.{range_with_len}
 use Rattle.std.specs.Option.{option_or, option_to_list, unwrap_or}
 use Rattle.std.proofs.Math.Seq.{drop-append_seam, take-append_seam}
-use Rattle.std.proofs.lemmas.Bool.{cases_Bool, cases_lt, and_parts, eqb-true, lt-ltb, false≢true}
+use Rattle.std.proofs.lemmas.Bool.{cases_Bool, cases_lt, and_parts, eqb-true, lt-ltb, false≢true, and_right}
 use Rattle.std.proofs.lemmas.List.{get_or_past}
 use Rattle.std.proofs.lemmas.List.Elements.{All-nil, All-push}
 use Rattle.std.proofs.lemmas.List.FromFn.{get_or-map-range_with_len, length-map-range_with_len}
+use Rattle.list_laws.proofs.Ranges.{map_same_below}
+use Rattle.list_laws.proofs.Options.{option_or-None, option_or-Some}
 use Rattle.map_entry.specs.declared.cell.Cell.{Cell}
-use Rattle.map_entry.specs.declared.entry.Entry.{Entry}
 use Rattle.map_entry.specs.Entry.{selected}
 use Rattle.map_entry.specs.Setup.{SetupParts}
-use Rattle.packet_writer.specs.Flags.{is_named, names_by}
+use Rattle.packet_writer.specs.Flags.{is_named}
 use Rattle.packet_writer.specs.Packet.{Blocks, claim_rows, flag_of, found_block, output_of_claim, packet_on}
 use Rattle.plain_book.specs.declared.calls.JournalCall.{JournalCall}
 use Rattle.plain_book.specs.declared.history.ClaimItem.{ClaimItem}
@@ -34,9 +36,9 @@ use Rattle.interleavings.specs.Events.{IsRun, answer_of, block_in, call_in, clai
 use Rattle.interleavings.specs.Run.{claim_in, claim_with, has_seen, is_for, looks, saw, seen_flags, seen_from, sees_by, worker_of}
 use Rattle.interleavings.proofs.Answering.{given_in, run_given}
 use Rattle.interleavings.proofs.Counting.{AreDrawn, are_drawn, worker_old}
-use Rattle.interleavings.proofs.Ranging.{alike, same_range}
+use Rattle.interleavings.proofs.Ranging.{alike}
 use Rattle.interleavings.proofs.Runs.{journal_more, run_more}
-use Rattle.interleavings.proofs.Sights.{block_more, or_none, seen_more, seen_there, set_by}
+use Rattle.interleavings.proofs.Sights.{block_more, seen_more, seen_there, set_by}
 
 below : (k j : ℕ) → k ≤ j → (k ≡ j → ⊥) → k < j
 below k j le apart = elim (cases_lt k j) [
@@ -54,7 +56,8 @@ flags_with s rows seen = map (λ input. is_named s.device.rate.frames rows input
 abbrev claim_from : SetupParts → (ℕ → List Cell) → (ℕ → Option (List ℤ)) → List Bool → ℕ → ClaimItem
 claim_from s rows found flags k = claim_item k flags (packet_on s.device (output_of_claim s k) rows found (tick_of_claim s k))
 
-flag_seen : (s : SetupParts) (rows : ℕ → List Cell) (seen : ℕ → Bool) (input : ℕ) → flag_of (flags_with s rows seen) input ≡ true → seen input ≡ true
+flag_seen : (s : SetupParts) (rows : ℕ → List Cell) (seen : ℕ → Bool) (input : ℕ) → flag_of (flags_with s rows seen) input ≡ true
+    → seen input ≡ true
 flag_seen s rows seen input h =
     let n = length s.device.inputs in
     let f = λ (i : ℕ). is_named s.device.rate.frames rows i && seen i in
@@ -86,7 +89,7 @@ claim_same s journal journal' blocks blocks' seen seen' k same sights there =
     let blocks_same : found_block blocks found t ≡ found_block blocks' found t =
     alike (λ (input : ℕ). choose (flag_of found input) (blocks input t) (blocks' input t) (λ set. there input (flag_seen s rows seen input set))) in
     let flags_same : found ≡ found' =
-    same_range (λ input. is_named s.device.rate.frames rows input && seen input) (λ input. is_named s.device.rate.frames rows input && seen' input) n
+    map_same_below (λ input. is_named s.device.rate.frames rows input && seen input) (λ input. is_named s.device.rate.frames rows input && seen' input) n
     (λ i lt. ap (λ (b : Bool). is_named s.device.rate.frames rows i && b) (sights i lt)) in
     ap (λ (tb : ℕ → Option (List ℤ)). claim_from s rows tb found k) blocks_same
     ∙ ap (λ (f : List Bool). claim_from s rows (found_block blocks' f t) f k) flags_same
@@ -95,7 +98,8 @@ claim_same s journal journal' blocks blocks' seen seen' k same sights there =
 -- ---- the rows of a claim that was made
 
 -- the calls of a run are a legal journal
-pub run_journal : (s : SetupParts) (ticks : ℕ) (events : List Taken) → IsRun s ticks events → IsLegalJournal s (claims_in events) (journal_in s events)
+pub run_journal : (s : SetupParts) (ticks : ℕ) (events : List Taken) → IsRun s ticks events
+    → IsLegalJournal s (claims_in events) (journal_in s events)
 run_journal s ticks events run = given_legal s [] 0 (given_in events) (journal_in s events) (claims_in events) (no_calls s 0) (run_given s ticks events run)
 
 -- a call that is accepted now is accepted at the claims made
@@ -117,8 +121,10 @@ late_calls s ticks before (Call client request) =
     let claims = claims_in before in
     late_call s journal client claims request (call_of s journal client claims request (reply_of s journal claims request)) refl
 
-pub rows_stay : (s : SetupParts) (ticks : ℕ) (before : List Taken) (event : Event) (k : ℕ) → HasOutputs s → IsRun s ticks before → k < claims_in before
-    → claim_rows s (entries_of s (journal_in s (before ++ taken_by s ticks before event ∷ []))) k ≡ claim_rows s (entries_of s (journal_in s before)) k
+pub rows_stay : (s : SetupParts) (ticks : ℕ) (before : List Taken) (event : Event) (k : ℕ) → HasOutputs s → IsRun s ticks before
+    → k < claims_in before
+    → claim_rows s (entries_of s (journal_in s (before ++ taken_by s ticks before event ∷ []))) k ≡ claim_rows s (entries_of s (journal_in s before))
+    k
 rows_stay s ticks before event k some run lt =
     let t = taken_by s ticks before event in
     let after : List Taken = before ++ t ∷ [] in
@@ -138,20 +144,20 @@ rows_stay s ticks before event k some run lt =
 
 -- ---- a claim that was made
 
-still_same : {Y : Type 0} (a b : Option Y) → is_some a ≡ true → a ≡ option_or a b
-still_same None b h = absurd (false≢true h)
-still_same (Some y) b h = refl
-
-pub block_same : (before : List Taken) (t : Taken) (input tick : ℕ) → is_some (block_in before input tick) ≡ true → block_in before input tick ≡ block_in (before ++ t ∷ []) input tick
-block_same before t input tick there = still_same (block_in before input tick) (set_by input tick t) there ∙ sym (block_more before t input tick)
+pub block_same : (before : List Taken) (t : Taken) (input tick : ℕ) → is_some (block_in before input tick) ≡ true
+    → block_in before input tick ≡ block_in (before ++ t ∷ []) input tick
+block_same before t input tick there = sym (option_or-Some (block_in before input tick) (set_by input tick t) there) ∙ sym (block_more before t input tick)
 
 pub or_end : (a b : Bool) → b ≡ false → (a || b) ≡ a
 or_end true b h = refl
 or_end false b h = h
 
-pub claim_stays : (s : SetupParts) (ticks : ℕ) (before : List Taken) (event : Event) (k : ℕ) → HasOutputs s → IsRun s ticks before → k < claims_in before
-    → ((input : ℕ) → sees_by s (worker_of before k) k input (option_or (latest_of (worker_of before k) before) None) (taken_by s ticks before event) ≡ false)
-    → claim_in s (journal_in s before) before k ≡ claim_in s (journal_in s (before ++ taken_by s ticks before event ∷ [])) (before ++ taken_by s ticks before event ∷ []) k
+pub claim_stays : (s : SetupParts) (ticks : ℕ) (before : List Taken) (event : Event) (k : ℕ) → HasOutputs s → IsRun s ticks before
+    → k < claims_in before
+    → ((input : ℕ) → sees_by s (worker_of before k) k input (option_or (latest_of (worker_of before k) before) None)
+    (taken_by s ticks before event) ≡ false)
+    → claim_in s (journal_in s before) before k ≡ claim_in s (journal_in s (before ++ taken_by s ticks before event ∷ []))
+    (before ++ taken_by s ticks before event ∷ []) k
 claim_stays s ticks before event k some run lt unseen =
     let t = taken_by s ticks before event in
     let after : List Taken = before ++ t ∷ [] in
@@ -165,18 +171,16 @@ claim_stays s ticks before event k some run lt unseen =
 
 -- ---- which looks a claim sees
 
-and_false : (a b : Bool) → b ≡ false → (a && b) ≡ false
-and_false true b h = h
-and_false false b h = refl
-
 -- a look that sees nothing
-pub unseen : (s : SetupParts) (worker k input : ℕ) (latest : Option ℕ) (t : Taken) → saw t.answer ≡ false → sees_by s worker k input latest t ≡ false
+pub unseen : (s : SetupParts) (worker k input : ℕ) (latest : Option ℕ) (t : Taken) → saw t.answer ≡ false
+    → sees_by s worker k input latest t ≡ false
 unseen s worker k input latest t none =
     let inner : (saw t.answer && is_for s k latest) ≡ false = rw none refl in
-    and_false (looks worker input t.event) (saw t.answer && is_for s k latest) inner
+    and_right (looks worker input t.event) (saw t.answer && is_for s k latest) inner
 
 -- a look of a worker is for no claim but its latest
-pub look_elsewhere : (s : SetupParts) (before : List Taken) (worker at k j input : ℕ) (answer : Answer) → AreDrawn before → latest_of worker before ≡ Some j
+pub look_elsewhere : (s : SetupParts) (before : List Taken) (worker at k j input : ℕ) (answer : Answer) → AreDrawn before
+    → latest_of worker before ≡ Some j
     → k < claims_in before → (k ≡ j → ⊥)
     → sees_by s (worker_of before k) k input (option_or (latest_of (worker_of before k) before) None) (taken (Look worker at) answer) ≡ false
 look_elsewhere s before worker at k j input answer are latest lt apart = elim (cases_Bool (eqb worker (worker_of before k))) [
@@ -187,7 +191,7 @@ look_elsewhere s before worker at k j input answer are latest lt apart = elim (c
       let here : latest_of w before ≡ Some j = ap (λ (x : ℕ). latest_of x before) (sym e) ∙ latest in
       let le : k ≤ j = (let u = are.upto k lt in rw here at u) in
       let less : ltb k j ≡ true = lt-ltb k j (below k j le apart) in
-      let off : is_for s k o ≡ false = ap (is_for s k) (or_none (latest_of w before) ∙ here) ∙ rw less refl in
-      and_false (looks w input (Look worker at)) (saw answer && is_for s k o) (and_false (saw answer) (is_for s k o) off)
+      let off : is_for s k o ≡ false = ap (is_for s k) (option_or-None (latest_of w before) ∙ here) ∙ rw less refl in
+      and_right (looks w input (Look worker at)) (saw answer && is_for s k o) (and_right (saw answer) (is_for s k o) off)
   | inr other ↦ rw other refl
 ]

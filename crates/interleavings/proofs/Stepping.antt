@@ -1,5 +1,7 @@
 -- Runs of events, and what a core keeps, place by place.
-use Rattle.std.proofs.Common.{◌≡◌, ℕ, zero, suc, ◌+◌, ◌*◌, ◌^◌, ◌/◌, ◌<◌, ◌≤◌, Bool, true, false, eqb, ltb, List, [], ◌∷◌, ◌++◌, length, get_or, map, Option, Some, None, inl, inr, refl, sym, ap, subst, ◌∙◌, zero-add, append_assoc, arith, ℤ}
+use Rattle.std.proofs.Common.{◌≡◌, ℕ, zero, suc, ◌+◌, ◌*◌, ◌^◌, ◌/◌, ◌<◌, ◌≤◌, Bool, true, false, eqb, ltb, List, []}
+use Rattle.std.proofs.Common.{◌∷◌, ◌++◌, length, get_or, map, Option, Some, None, inl, inr, refl, sym, ap, subst, ◌∙◌, zero-add}
+use Rattle.std.proofs.Common.{append_assoc, arith, ℤ}
 use Rattle.std.specs.Prelude.{◌&&◌, All, fold, if◌then◌else◌, is_some, slice_get}
 use Rattle.std.specs.BTreeMap.{BTreeMap}
 use Rattle.std.specs.List.{AllByRecursion, range_with_len}
@@ -33,7 +35,8 @@ use Rattle.interleavings.specs.declared.facts.Facts.{Facts}
 use Rattle.interleavings.specs.declared.facts.Session.{Session}
 use Rattle.interleavings.specs.declared.facts.Sight.{Sight}
 use Rattle.interleavings.specs.Core.{AreWhole, CanShow, IsCore, IsReady, closing_in, no_sight, repeated, set_at, sight_in, taken_in}
-use Rattle.interleavings.specs.Events.{IsInRange, IsRun, answer_of, block_by, block_in, claims_in, is_closed, is_done, latest_of, journal_in, run_from, run_of, taken, taken_by}
+use Rattle.interleavings.specs.Events.{IsInRange, IsRun, answer_of, block_by, block_in, claims_in, is_closed, is_done, latest_of, journal_in, run_from}
+use Rattle.interleavings.specs.Events.{run_of, taken, taken_by}
 use Rattle.interleavings.specs.Run.{claim_in, history_in, replies_given}
 use Rattle.interleavings.proofs.Counting.{are_drawn, claims_kept, claims_one, look_undrawn, set_undrawn}
 use Rattle.interleavings.proofs.Ranging.{both}
@@ -48,7 +51,8 @@ some_outputs s is = let some = is.device.bounds.some_output in omega (arith, som
 -- ---- runs of events
 
 more_from : (s : SetupParts) (ticks : ℕ) (before : List Taken) (events : List Event) (event : Event)
-    → run_from s ticks before (events ++ event ∷ []) ≡ run_from s ticks before events ++ taken_by s ticks (run_from s ticks before events) event ∷ []
+    → run_from s ticks before (events ++ event ∷ []) ≡ run_from s ticks before events
+    ++ taken_by s ticks (run_from s ticks before events) event ∷ []
 more_from s ticks before [] event = refl
 more_from s ticks before (e ∷ events) event = more_from s ticks (before ++ taken_by s ticks before e ∷ []) events event
 
@@ -57,7 +61,8 @@ pub run_of_more : (s : SetupParts) (ticks : ℕ) (events : List Event) (event : 
 unfolding run_of
 run_of_more s ticks events event = more_from s ticks [] events event
 
-is_run_from : (s : SetupParts) (ticks : ℕ) (before : List Taken) (events : List Event) → IsRun s ticks before → IsRun s ticks (run_from s ticks before events)
+is_run_from : (s : SetupParts) (ticks : ℕ) (before : List Taken) (events : List Event) → IsRun s ticks before
+    → IsRun s ticks (run_from s ticks before events)
 is_run_from s ticks before [] run = run
 is_run_from s ticks before (e ∷ events) run =
     is_run_from s ticks (before ++ taken_by s ticks before e ∷ []) events (run_more s ticks before (taken_by s ticks before e) run refl)
@@ -70,7 +75,8 @@ pub run_of_none : (s : SetupParts) (ticks : ℕ) → run_of s ticks [] ≡ []
 unfolding run_of
 run_of_none s ticks = refl
 
-events_from : (s : SetupParts) (ticks : ℕ) (before : List Taken) (events : List Event) → map (λ t. t.event) (run_from s ticks before events) ≡ map (λ t. t.event) before ++ events
+events_from : (s : SetupParts) (ticks : ℕ) (before : List Taken) (events : List Event)
+    → map (λ t. t.event) (run_from s ticks before events) ≡ map (λ t. t.event) before ++ events
 events_from s ticks before [] = sym (append-nil (map (λ t. t.event) before))
 events_from s ticks before (e ∷ events) =
     events_from s ticks (before ++ taken_by s ticks before e ∷ []) events
@@ -114,7 +120,8 @@ more_within s ticks before (Call client request) le = omega (arith, le, claims_k
 pub within : (s : SetupParts) (ticks : ℕ) (events : List Taken) → IsRun s ticks events → claims_in events ≤ ticks * length s.device.outputs
 within s ticks events run =
     run_by s ticks (λ t. claims_in t ≤ ticks * length s.device.outputs) (omega arith)
-    (λ before t so_far is le. subst (λ (a : Answer). claims_in (before ++ taken t.event a ∷ []) ≤ ticks * length s.device.outputs) (sym is) (more_within s ticks before t.event le)) events run
+    (λ before t so_far is le. subst (λ (a : Answer). claims_in (before ++ taken t.event a ∷ []) ≤ ticks * length s.device.outputs) (sym is)
+    (more_within s ticks before t.event le)) events run
 
 -- all packets of a session are fewer than claims can be
 pub few_packets : (s : SetupParts) (ticks : ℕ) → IsSetup s → ticks ≤ SESSION_TICKS → ticks * length s.device.outputs + 1 < CLAIMS_LIMIT
@@ -124,11 +131,13 @@ few_packets s ticks is few =
 
 -- ---- blocks
 
-frames_or : (channels frames : ℕ) (a b : Option (List ℤ)) → HasFrames a channels frames → HasFrames b channels frames → HasFrames (option_or a b) channels frames
+frames_or : (channels frames : ℕ) (a b : Option (List ℤ)) → HasFrames a channels frames → HasFrames b channels frames
+    → HasFrames (option_or a b) channels frames
 frames_or channels frames None b first second = second
 frames_or channels frames (Some x) b first second = first
 
-frames_if : (channels frames : ℕ) (test : Bool) (o : Option (List ℤ)) → HasFrames o channels frames → HasFrames (if test then o else None) channels frames
+frames_if : (channels frames : ℕ) (test : Bool) (o : Option (List ℤ)) → HasFrames o channels frames
+    → HasFrames (if test then o else None) channels frames
 frames_if channels frames true o has = has
 frames_if channels frames false o has = tt
 
@@ -161,36 +170,44 @@ all_events : (P : Event → Type 0) (events : List Taken) → AllByRecursion P (
 all_events P [] all = tt
 all_events P (t ∷ events) all = (all.0, all_events P events all.1)
 
-in_range : (s : SetupParts) (ticks workers : ℕ) (events : List Event) → All (IsInRange s workers) events → AllByRecursion (λ t. IsInRange s workers t.event) (run_of s ticks events)
+in_range : (s : SetupParts) (ticks workers : ℕ) (events : List Event) → All (IsInRange s workers) events
+    → AllByRecursion (λ t. IsInRange s workers t.event) (run_of s ticks events)
 in_range s ticks workers events range =
     all_events (IsInRange s workers) (run_of s ticks events)
     (subst (AllByRecursion (IsInRange s workers)) (sym (events_of_run s ticks events)) (recursion_from_All (IsInRange s workers) events range))
 
 -- ---- what is kept, place by place
 
-pub sights_long : (s : SetupParts) (workers : ℕ) (events : List Taken) (facts : Facts) → IsReady s workers events facts → length facts.sights ≡ workers
+pub sights_long : (s : SetupParts) (workers : ℕ) (events : List Taken) (facts : Facts) → IsReady s workers events facts
+    → length facts.sights ≡ workers
 sights_long s workers events facts ready = ap length ready.sights ∙ length-map-range_with_len (sight_in s events) 0 workers
 
-pub sight_there : (s : SetupParts) (workers : ℕ) (events : List Taken) (facts : Facts) (worker : ℕ) → IsReady s workers events facts → worker < workers → worker < length facts.sights
+pub sight_there : (s : SetupParts) (workers : ℕ) (events : List Taken) (facts : Facts) (worker : ℕ) → IsReady s workers events facts
+    → worker < workers → worker < length facts.sights
 sight_there s workers events facts worker ready lt = omega (arith, lt, sights_long s workers events facts ready)
 
-pub sight_is : (s : SetupParts) (workers : ℕ) (events : List Taken) (facts : Facts) (worker : ℕ) (x : Sight) → IsReady s workers events facts → worker < workers
+pub sight_is : (s : SetupParts) (workers : ℕ) (events : List Taken) (facts : Facts) (worker : ℕ) (x : Sight) → IsReady s workers events facts
+    → worker < workers
     → slice_get facts.sights worker ≡ Some x → x ≡ sight_in s events worker
 sight_is s workers events facts worker x ready lt is =
     sym (get_or_from_slice_get facts.sights worker x x is) ∙ ap (λ (z : List Sight). get_or z worker x) ready.sights
     ∙ get_or-map-range_with_len (sight_in s events) 0 workers worker worker x lt (zero-add worker)
 
-pub closing_there : (s : SetupParts) (workers : ℕ) (events : List Taken) (facts : Facts) (input : ℕ) → IsReady s workers events facts → input < length s.device.inputs
+pub closing_there : (s : SetupParts) (workers : ℕ) (events : List Taken) (facts : Facts) (input : ℕ) → IsReady s workers events facts
+    → input < length s.device.inputs
     → input < length facts.closings
-closing_there s workers events facts input ready lt = omega (arith, lt, ap length ready.closings ∙ length-map-range_with_len (closing_in events) 0 (length s.device.inputs))
+closing_there s workers events facts input ready lt =
+    omega (arith, lt, ap length ready.closings ∙ length-map-range_with_len (closing_in events) 0 (length s.device.inputs))
 
-pub closing_is : (s : SetupParts) (workers : ℕ) (events : List Taken) (facts : Facts) (input : ℕ) → IsReady s workers events facts → input < length s.device.inputs
+pub closing_is : (s : SetupParts) (workers : ℕ) (events : List Taken) (facts : Facts) (input : ℕ) → IsReady s workers events facts
+    → input < length s.device.inputs
     → get_or facts.closings input 0 ≡ closing_in events input
 closing_is s workers events facts input ready lt =
     ap (λ (z : List ℕ). get_or z input 0) ready.closings
     ∙ get_or-map-range_with_len (closing_in events) 0 (length s.device.inputs) input input 0 lt (zero-add input)
 
-pub claims_long : (s : SetupParts) (workers : ℕ) (events : List Taken) (facts : Facts) → IsReady s workers events facts → length facts.history.claims ≡ claims_in events
+pub claims_long : (s : SetupParts) (workers : ℕ) (events : List Taken) (facts : Facts) → IsReady s workers events facts
+    → length facts.history.claims ≡ claims_in events
 claims_long s workers events facts ready =
     ap (λ (h : History). length h.claims) (ready.history ∙ history_is s events)
     ∙ length-map-range_with_len (claim_in s (journal_in s events) events) 0 (claims_in events)
@@ -199,7 +216,8 @@ ordered_fold : (xs ys : List ReplyItem) → AreInOrder xs → AreInOrder (fold p
 ordered_fold xs [] order = order
 ordered_fold xs (y ∷ ys) order = ordered_fold (put xs y) ys (put_ordered xs y order)
 
-pub replies_ordered : (s : SetupParts) (workers : ℕ) (events : List Taken) (facts : Facts) → IsReady s workers events facts → AreInOrder facts.history.replies
+pub replies_ordered : (s : SetupParts) (workers : ℕ) (events : List Taken) (facts : Facts) → IsReady s workers events facts
+    → AreInOrder facts.history.replies
 replies_ordered s workers events facts ready =
     subst (λ (h : History). AreInOrder h.replies) (sym (ready.history ∙ history_is s events)) (ordered_fold [] (replies_given events) tt)
 
@@ -209,7 +227,8 @@ pub can_show : (c : Session) (events : List Event) (facts : Facts) → IsCore c 
 can_show c events facts core = record {
   desk = ap (λ (d : DeskParts). d.setup) core.ready.desk;
   blocks = λ input tick.
-      subst (λ (o : Option (List ℤ)). HasFrames o (channels_of c.setup.device.inputs input) c.setup.device.rate.frames) (sym (core.ready.blocks input tick))
+      subst (λ (o : Option (List ℤ)). HasFrames o (channels_of c.setup.device.inputs input) c.setup.device.rate.frames)
+      (sym (core.ready.blocks input tick))
       (run_frames c.setup c.workers (taken_in c events) input tick (in_range c.setup c.ticks c.workers events core.range));
 }
 
@@ -265,4 +284,5 @@ has_claim c events facts worker k x core lt at late =
 -- the calls of the history are the book's
 pub same_journal : (c : Session) (events : List Event) (facts : Facts) → IsCore c events facts → facts.history.journal ≡ facts.desk.journal
 same_journal c events facts core =
-    ap (λ (h : History). h.journal) (core.ready.history ∙ history_is c.setup (taken_in c events)) ∙ sym (ap (λ (d : DeskParts). d.journal) core.ready.desk)
+    ap (λ (h : History). h.journal) (core.ready.history ∙ history_is c.setup (taken_in c events))
+    ∙ sym (ap (λ (d : DeskParts). d.journal) core.ready.desk)

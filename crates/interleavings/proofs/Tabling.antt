@@ -1,5 +1,6 @@
 -- Tables of blocks.
-use Rattle.std.proofs.Common.{◌≡◌, ℕ, zero, suc, ◌<◌, Bool, true, false, eqb, List, [], ◌∷◌, ◌++◌, length, set, Option, Some, None, inl, inr, refl, sym, ap, ◌∙◌, arith, ℤ}
+use Rattle.std.proofs.Common.{◌≡◌, ℕ, zero, suc, ◌<◌, Bool, true, false, eqb, List, [], ◌∷◌, ◌++◌, length, set, Option, Some, None}
+use Rattle.std.proofs.Common.{inl, inr, refl, sym, ap, ◌∙◌, arith, ℤ}
 use Rattle.std.specs.Prelude.{◌&&◌, cond, if◌then◌else◌, slice_get}
 use Rattle.std.specs.BTreeMap.{BTreeMap, get, is_at}
 use Rattle.std.specs.Option.{option_map_or}
@@ -13,7 +14,8 @@ use Rattle.interleavings.specs.Core.{set_at}
 abbrev pub TickMap : Type 0
 TickMap = BTreeMap ℕ (List ℤ)
 
-pub none_more : (table : List TickMap) (blocks : TickMap) → ((tick : ℕ) → get nat_cmp blocks tick ≡ None) → ((input tick : ℕ) → set_at table input tick ≡ None)
+pub none_more : (table : List TickMap) (blocks : TickMap) → ((tick : ℕ) → get nat_cmp blocks tick ≡ None)
+    → ((input tick : ℕ) → set_at table input tick ≡ None)
     → (input tick : ℕ) → set_at (table ++ blocks ∷ []) input tick ≡ None
 none_more [] blocks empty none zero tick = empty tick
 none_more [] blocks empty none (suc input) tick = refl
@@ -28,7 +30,8 @@ pub set_here : (table : List TickMap) (input : ℕ) (blocks : TickMap) → input
 set_here [] input blocks within i t = absurd (omega (arith, within))
 set_here (x ∷ table) zero blocks within zero t = refl
 set_here (x ∷ table) zero blocks within (suc i) t = let off : eqb 0 (suc i) ≡ false = ne_eqb 0 (suc i) (λ e. omega (arith, e)) in rw off refl
-set_here (x ∷ table) (suc input) blocks within zero t = let off : eqb (suc input) 0 ≡ false = ne_eqb (suc input) 0 (λ e. omega (arith, e)) in rw off refl
+set_here (x ∷ table) (suc input) blocks within zero t =
+    let off : eqb (suc input) 0 ≡ false = ne_eqb (suc input) 0 (λ e. omega (arith, e)) in rw off refl
 set_here (x ∷ table) (suc input) blocks within (suc i) t =
     set_here table input blocks (omega (arith, within)) i t ∙ ap (λ (b : Bool). if b then get nat_cmp blocks t else set_at table i t) (same_next input i)
 

@@ -5,6 +5,8 @@
 
 mod asking;
 mod blocks;
+#[cfg(test)]
+mod cases;
 mod events;
 mod facts;
 pub mod headline;
@@ -13,6 +15,8 @@ mod machine;
 mod render;
 mod start;
 mod steps;
+#[cfg(test)]
+mod tests;
 
 pub use events::{Answer, Event, Events, Taken, are_in_range};
 pub use machine::{Core, law_core};

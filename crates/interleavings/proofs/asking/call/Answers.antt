@@ -43,7 +43,8 @@ keep-requires-clause-same c =
     let asked_is : c.as_slice-journal.result.now ≡ (desk_after d c.args.client c.args.request.now).journal =
     c.as_slice-journal.ensures ∙ c.journal.ensures.value ∙ ap (λ (x : DeskParts). x.journal) c.in-Ok.ensures.desk in
     ap (λ (n : ℕ). take n c.push.new.self) c.len-calls.ensures ∙ ap (take (length old)) c.in_ok-push.ensures.ok ∙ take-append_seam old _ ∙ was
-    ∙ sym (ap (λ (n : ℕ). take n c.as_slice-journal.result.now) calls_is ∙ ap (take (length d.journal)) asked_is ∙ take-append_seam d.journal (option_to_list call))
+    ∙ sym (ap (λ (n : ℕ). take n c.as_slice-journal.result.now) calls_is ∙ ap (take (length d.journal)) asked_is
+    ∙ take-append_seam d.journal (option_to_list call))
 
 pub keep-requires-clause-last : goal.keep-requires-clause-last
 keep-requires-clause-last c =

@@ -1,4 +1,5 @@
-use Rattle.std.proofs.Common.{◌≡◌, ◌∙◌, ◌<◌, ◌+◌, ◌++◌, ◌∷◌, [], ap, sym, subst, map, take, get_or, length, List, ℕ, rules, arith}
+use Rattle.std.proofs.Common.{◌≡◌, ◌∙◌, ◌<◌, ◌+◌, ◌++◌, ◌∷◌, [], ap, sym, subst, map, take, get_or, length, List, ℕ, rules}
+use Rattle.std.proofs.Common.{arith}
 use Rattle.std.proofs.lemmas.List.{take_all, take_more}
 use Rattle.plain_book.specs.Journal.{entries_of}
 use Rattle.plain_book.specs.Rows.{AreRows}
@@ -29,7 +30,8 @@ loop-event-preserved c =
     record {
       setup = c.loop-event.invariant.setup;
       core = c.in_ok-_answer.ensures.taken
-          ∙ ap (λ (x : CoreParts). core_parts x.setup x.ticks x.workers (x.taken ++ taken_by x.setup x.ticks x.taken e ∷ [])) c.loop-event.invariant.core
+          ∙ ap (λ (x : CoreParts). core_parts x.setup x.ticks x.workers (x.taken ++ taken_by x.setup x.ticks x.taken e ∷ []))
+          c.loop-event.invariant.core
           ∙ ap (core_parts s ticks c.args.workers) (sym (run_of_more s ticks (take i events) e) ∙ ap (run_of s ticks) (sym next));
     }
 
@@ -39,11 +41,13 @@ returns-clause-events c =
     let i = c.loop-event.event-index in
     let long : length c.as_slice-event-items.result.now ≡ length events = ap length c.as_slice-event-items.ensures in
     let whole : take i events ≡ events = take_all i events (omega (arith, long, c.loop-event-test.false)) in
-    ap (λ (x : CoreParts). map (λ t. t.event) x.taken) c.loop-event.invariant.core ∙ events_of_run c.args.setup.now c.args.ticks (take i events) ∙ whole
+    ap (λ (x : CoreParts). map (λ t. t.event) x.taken) c.loop-event.invariant.core ∙ events_of_run c.args.setup.now c.args.ticks (take i events)
+    ∙ whole
 
 pub returns-clause-run : goal.returns-clause-run
 returns-clause-run c =
-    subst (λ (x : CoreParts). IsRun c.args.setup.now c.args.ticks x.taken) (sym c.loop-event.invariant.core) (is_run c.args.setup.now c.args.ticks (take c.loop-event.event-index c.args.events.now))
+    subst (λ (x : CoreParts). IsRun c.args.setup.now c.args.ticks x.taken) (sym c.loop-event.invariant.core)
+    (is_run c.args.setup.now c.args.ticks (take c.loop-event.event-index c.args.events.now))
 
 pub returns-clause-legal : goal.returns-clause-legal
 returns-clause-legal c =

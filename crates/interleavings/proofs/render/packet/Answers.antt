@@ -30,5 +30,6 @@ returns c = λ entries row.
     let same : (i : ℕ) → b i ≡ found_block (set_at c.args.table.now) c.args.found.now (tick_of_claim s k) i =
     λ i. agrees i ∙ rw (c.new-blocks.ensures.table, c.new-blocks.ensures.found, c.new-blocks.ensures.tick, c.tick_of.ensures) refl in
     c.from_vec.ensures ∙ take_at c.write_claim.new.out _ c.in_ok-made.made.len (search rules)
-    ∙ c.write_claim.ensures.text b (λ i. refl) entries (set_at c.args.table.now) c.args.found.now (λ frame lt. c.new.ensures.row frame ∙ sym (row frame))
+    ∙ c.write_claim.ensures.text b (λ i. refl) entries (set_at c.args.table.now) c.args.found.now
+    (λ frame lt. c.new.ensures.row frame ∙ sym (row frame))
     (λ input named. same input)

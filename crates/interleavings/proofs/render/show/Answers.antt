@@ -22,6 +22,8 @@ returns c =
     let journal = c.args.facts.now.desk.journal in
     let value = rw c.requires.facts.desk at c.row.ensures.value in
     let row : HasRow s (entries_of s journal) k c.as_slice-row.result.now = λ frame.
-    rows_are s (entries_of s journal) k c.output_of.result c.tick_of.result c.row.result.now value c.output_of.ensures.value c.tick_of.ensures frame ∙ sym c.as_slice-row.ensures in
+    rows_are s (entries_of s journal) k c.output_of.result c.tick_of.result c.row.result.now value c.output_of.ensures.value c.tick_of.ensures frame
+    ∙ sym c.as_slice-row.ensures in
     let text = rw (c.as_slice-table.ensures.value, c.as_slice.ensures) at c.in_ok-packet.ensures in
-    c.new.ensures ∙ claim_is s journal (set_at c.args.facts.now.blocks.items) c.args.seen.now k c.as_slice-row.result.now c.in_ok-found.found c.in_ok-packet.packet row c.in_ok-found.ensures (text (entries_of s journal) row)
+    c.new.ensures ∙ claim_is s journal (set_at c.args.facts.now.blocks.items) c.args.seen.now k c.as_slice-row.result.now c.in_ok-found.found
+    c.in_ok-packet.packet row c.in_ok-found.ensures (text (entries_of s journal) row)

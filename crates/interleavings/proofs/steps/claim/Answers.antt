@@ -47,7 +47,8 @@ returns-clause-core c =
     let j_is : old.desk.journal ≡ journal_in s.setup taken = ap (λ (d : DeskParts). d.journal) core.ready.desk in
     let seen = c.in_ok-seen.seen in
     core_more s events (Claim c.args.worker) old _ core c.requires.range
-    (claim_ready s.setup s.ticks s.workers taken c.args.worker c.sight_at.result.now c.in_ok-item.item seen old _ (some_outputs s.setup core.setup) (run_in s events)
+    (claim_ready s.setup s.ticks s.workers taken c.args.worker c.sight_at.result.now c.in_ok-item.item seen old _ (some_outputs s.setup core.setup)
+    (run_in s events)
     (sym is ∙ ap Claimed k_is) c.requires.range
     (sight_is s.setup s.workers taken old c.args.worker c.sight_at.result.now core.ready c.requires.range c.sight_at.ensures)
     (rw k_is at c.in_ok-seen.ensures)

@@ -24,5 +24,6 @@ returns-clause-core c =
     let taken = taken_in s events in
     let last = c.closing_at-last.ensures ∙ closing_is s.setup s.workers taken old c.args.input core.ready c.requires.range in
     core_more s events (Close c.args.input c.args.upto) old _ core c.requires.range
-    (close_ready s.setup s.ticks s.workers taken c.args.input c.args.upto old _ (some_outputs s.setup core.setup) (run_in s events) c.requires.range refl refl refl refl
+    (close_ready s.setup s.ticks s.workers taken c.args.input c.args.upto old _ (some_outputs s.setup core.setup) (run_in s events) c.requires.range refl
+    refl refl refl
     (c.set.ensures ∙ ap (λ (z : ℕ). set old.closings c.args.input z) (c.max.ensures ∙ ap (λ (z : ℕ). max z c.args.upto) last)) core.ready)

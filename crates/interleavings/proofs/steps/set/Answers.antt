@@ -88,5 +88,6 @@ returns-clause-core c =
     let is : answer_of s.setup s.ticks taken (Set i t c.args.block.now) ≡ Done = rw (absent, open_it) refl in
     let put = rw c.in_ok-copy.ensures at c.in_ok-put_block.ensures.put in
     core_more s events (Set i t c.args.block.now) old _ core c.requires.range
-    (set_ready s.setup s.ticks s.workers taken i t c.args.block.now old _ (some_outputs s.setup core.setup) (run_in s events) is (none_there (block_in taken i t) absent)
+    (set_ready s.setup s.ticks s.workers taken i t c.args.block.now old _ (some_outputs s.setup core.setup) (run_in s events) is
+    (none_there (block_in taken i t) absent)
     refl refl refl c.put_block.ensures.long put refl core.ready)

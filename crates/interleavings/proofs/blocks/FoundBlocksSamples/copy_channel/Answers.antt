@@ -13,4 +13,5 @@ copy_from_block-requires-clause-room c =
 pub returns-in-None-clause-value : goal.returns-in-None-clause-value
 returns-in-None-clause-value c = λ b agrees.
     c.fill.ensures.after (λ y e. e) ∙ silent c.args.channels c.args.channel c.args.frame (length c.args.out.now)
-    ∙ ap (λ (o : Option (List ℤ)). channel_samples o c.args.channels c.args.channel c.args.frame (length c.args.out.now)) (sym (agrees c.args.input ∙ c.in-None.ensures.none))
+    ∙ ap (λ (o : Option (List ℤ)). channel_samples o c.args.channels c.args.channel c.args.frame (length c.args.out.now))
+    (sym (agrees c.args.input ∙ c.in-None.ensures.none))

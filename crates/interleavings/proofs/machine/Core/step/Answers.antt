@@ -11,7 +11,8 @@ invariant_of-self-in-Ok c =
     let old = c.self.inside.events in
     let more : c.push.new.self ≡ old ++ c.args.event.now ∷ [] = c.in_ok-push.ensures.ok ∙ ap (λ (e : Event). old ++ e ∷ []) c.in_ok-copy.ensures in
     let before_is : take c.len-count.result c.as_slice.result.now ≡ old =
-    ap (λ (n : ℕ). take n c.as_slice.result.now) c.len-count.ensures ∙ ap (take (length old)) (c.as_slice.ensures ∙ more) ∙ take-append_seam old (c.args.event.now ∷ []) in
+    ap (λ (n : ℕ). take n c.as_slice.result.now) c.len-count.ensures ∙ ap (take (length old)) (c.as_slice.ensures ∙ more)
+    ∙ take-append_seam old (c.args.event.now ∷ []) in
     rw more (rw before_is at c.in-Ok.ensures.core)
 
 pub returns-in-Ok-clause-taken : goal.returns-in-Ok-clause-taken
