@@ -2,6 +2,7 @@
 use Rattle.std.proofs.Common.{◌≡◌, ℕ, ◌≤◌, List, [], ◌++◌, refl, sym, ap, ◌∙◌, subst}
 use Rattle.std.specs.Prelude.{Result, Ok, Err, IfOk}
 use Rattle.std.proofs.lemmas.List.{append-nil}
+use Rattle.list_laws.proofs.Items.{All-right}
 use Rattle.claim_rule.specs.declared.view.View.{View}
 use Rattle.claim_rule.specs.Claims.{claims_at}
 use Rattle.claim_rule.specs.Views.{note, noted}
@@ -15,7 +16,6 @@ use Rattle.plain_book.specs.declared.requests.Stamp.{Stamp}
 use Rattle.plain_book.specs.Desk.{KeptParts}
 use Rattle.plain_book.specs.Rows.{SelectsAlike}
 use Rattle.plain_book.specs.Given.{AreGiven}
-use Rattle.plain_book.proofs.Alike.{all_right}
 use Rattle.plain_book.proofs.Giving.{given_legal}
 use Rattle.plain_book.proofs.Prefixes.{no_calls}
 use Rattle.live_book.specs.declared.attempt.Under.{Under}
@@ -42,7 +42,7 @@ pub floor_is : (b h c : BookFace) (p : ClientFace) (client : ℕ) (request : Req
 floor_is b h c p client request (Ok a) is tried =
     let told : h.publisher.view.told ≡ b.publisher.view.told ++ (p.view.sights ++ p.view.told) = ap (λ (z : BookFace). z.publisher.view.told) is in
     let below = subst (λ (z : BookFace). AreBelow z.publisher.view.plan a.1.claims z.publisher.view.told) is tried.told in
-    all_right (λ (x : Sight). claims_at b.publisher.view.plan x.raw ≤ a.1.claims) b.publisher.view.told (p.view.sights ++ p.view.told) below
+    All-right (λ (x : Sight). claims_at b.publisher.view.plan x.raw ≤ a.1.claims) b.publisher.view.told (p.view.sights ++ p.view.told) below
 floor_is b h c p client request (Err e) is tried = tt
 
 -- ---- what is shared

@@ -1,5 +1,6 @@
 -- What tries without an answer leave, and what one with an answer tells behind them.
-use Rattle.std.proofs.Common.{◌≡◌, ℕ, ◌+◌, ◌*◌, ◌<◌, ◌≤◌, List, [], ◌∷◌, ◌++◌, length, refl, sym, ap, ◌∙◌, subst, arith, append_assoc, length-append}
+use Rattle.std.proofs.Common.{◌≡◌, ℕ, ◌+◌, ◌*◌, ◌<◌, ◌≤◌, List, [], ◌∷◌, ◌++◌, length, refl, sym}
+use Rattle.std.proofs.Common.{ap, ◌∙◌, subst, arith, append_assoc, length-append}
 use Rattle.std.specs.Prelude.{All}
 use Rattle.std.proofs.lemmas.List.{append-nil}
 use Rattle.map_entry.specs.Setup.{SetupParts}
@@ -19,7 +20,8 @@ use Rattle.plain_book.specs.Desk.{IsAsked}
 use Rattle.plain_book.specs.Given.{given_item}
 use Rattle.live_book.specs.Books.{BookFace, last_raw}
 use Rattle.live_book.specs.Lent.{HeardMore, IsFewLoads}
-use Rattle.live_book.specs.Tries.{AreBelow, GoesOn, IsLoadedLast, IsLoadedOnce, IsMoved, IsSame, answer_entries}
+use Rattle.live_book.specs.Tries.{AreBelow, GoesOn, IsLoadedLast, IsLoadedOnce, IsMoved, IsSame}
+use Rattle.live_book.specs.Tries.{answer_entries}
 use Rattle.live_book.proofs.Sights.{all_left, last_push}
 
 pub record IsTrying (t : TableFace) (b c : BookFace) (p q : ClientFace) (n : ℕ) : Type 0 where
@@ -35,13 +37,20 @@ pub record IsTrying (t : TableFace) (b c : BookFace) (p q : ClientFace) (n : ℕ
   pub few : n ≤ b.publisher.view.plan.packets + b.publisher.view.plan.workers
 
 -- before the first try
-pub trying_new : (t : TableFace) (b : BookFace) (p : ClientFace) → IsPublisherOf t b.publisher → IsClientOf t p → IsTrying t b b p p 0
+pub trying_new : (t : TableFace) (b : BookFace) (p : ClientFace) → IsPublisherOf t b.publisher
+    → IsClientOf t p → IsTrying t b b p p 0
 trying_new t b p of of_pass = record {
   of = of;
   of_pass = of_pass;
   goes_on = record { setup = refl; publisher = refl; plan = refl };
   same = record { entries = refl; journal = refl; given = refl };
-  heard = record { id = refl; plan = refl; sights = refl; more = []; told = sym (append-nil p.view.told) };
+  heard = record {
+    id = refl;
+    plan = refl;
+    sights = refl;
+    more = [];
+    told = sym (append-nil p.view.told);
+  };
   earlier = [];
   sights = sym (append-nil b.publisher.view.sights);
   long = omega arith;
@@ -54,33 +63,48 @@ trying_new t b p of of_pass = record {
 pub goes_since : (b c d : BookFace) → GoesOn b c → GoesOn c d → GoesOn b d
 goes_since b c d one two = record {
   setup = two.setup ∙ one.setup;
-  publisher = two.publisher ∙ ap (λ (f : PublisherFace). record f { view = d.publisher.view }) one.publisher;
+  publisher = two.publisher ∙ ap (λ (f : PublisherFace). record f { view = d.publisher.view })
+      one.publisher;
   plan = two.plan ∙ one.plan;
 }
 
 pub same_since : (b c d : BookFace) → IsSame b c → IsSame c d → IsSame b d
-same_since b c d one two = record { entries = two.entries ∙ one.entries; journal = two.journal ∙ one.journal; given = two.given ∙ one.given }
+same_since b c d one two = record {
+  entries = two.entries ∙ one.entries;
+  journal = two.journal ∙ one.journal;
+  given = two.given ∙ one.given;
+}
 
-pub heard_since : (p q r : ClientFace) (w : View) → HeardMore p q → r ≡ record q { view = noted q.view (note w) } → HeardMore p r
+pub heard_since : (p q r : ClientFace) (w : View) → HeardMore p q
+    → r ≡ record q { view = noted q.view (note w) } → HeardMore p r
 heard_since p q r w one is = record {
   id = ap (λ (z : ClientFace). z.id) is ∙ one.id;
   plan = ap (λ (z : ClientFace). z.view.plan) is ∙ one.plan;
   sights = ap (λ (z : ClientFace). z.view.sights) is ∙ one.sights;
   more = one.more ++ (w.sights ++ w.told);
-  told = ap (λ (z : ClientFace). z.view.told) is ∙ ap (λ (xs : List Sight). xs ++ (w.sights ++ w.told)) one.told ∙ append_assoc p.view.told one.more (w.sights ++ w.told);
+  told = ap (λ (z : ClientFace). z.view.told) is
+      ∙ ap (λ (xs : List Sight). xs ++ (w.sights ++ w.told)) one.told
+      ∙ append_assoc p.view.told one.more (w.sights ++ w.told);
 }
 
 -- one more without an answer, since a number was drawn
-pub trying_more : (t : TableFace) (b c d : BookFace) (p q r : ClientFace) (n claims : ℕ) → IsTrying t b c p q n → IsPublisherOf t d.publisher → IsClientOf t r → IsSame c d → GoesOn c d
-    → r ≡ record q { view = noted q.view (note d.publisher.view) } → IsMoved c.publisher.view d.publisher.view claims → IsTrying t b d p r (n + 1)
+pub trying_more : (t : TableFace) (b c d : BookFace) (p q r : ClientFace) (n claims : ℕ)
+    → IsTrying t b c p q n → IsPublisherOf t d.publisher → IsClientOf t r → IsSame c d → GoesOn c d
+    → r ≡ record q { view = noted q.view (note d.publisher.view) }
+    → IsMoved c.publisher.view d.publisher.view claims → IsTrying t b d p r (n + 1)
 trying_more t b c d p q r n claims trying of of_pass same goes_on heard moved =
     let k : ℕ = length c.publisher.view.entries in
     let one : Sight = sight moved.first k in
     let two : Sight = sight moved.raw k in
-    let sights : d.publisher.view.sights ≡ b.publisher.view.sights ++ (trying.earlier ++ one ∷ two ∷ []) =
-    moved.sights ∙ ap (λ (xs : List Sight). xs ++ one ∷ two ∷ []) trying.sights ∙ append_assoc b.publisher.view.sights trying.earlier (one ∷ two ∷ []) in
-    let last : last_raw d.publisher.view.sights ≡ moved.raw = ap last_raw (moved.sights ∙ sym (append_assoc c.publisher.view.sights (one ∷ []) (two ∷ []))) ∙ last_push (c.publisher.view.sights ++ one ∷ []) two in
-    let most = subst (λ (plan : Plan). moved.raw ≤ plan.packets + plan.workers) trying.goes_on.plan moved.most in
+    let sights : d.publisher.view.sights ≡ b.publisher.view.sights
+    ++ (trying.earlier ++ one ∷ two ∷ []) =
+    moved.sights ∙ ap (λ (xs : List Sight). xs ++ one ∷ two ∷ []) trying.sights
+    ∙ append_assoc b.publisher.view.sights trying.earlier (one ∷ two ∷ []) in
+    let last : last_raw d.publisher.view.sights ≡ moved.raw =
+    ap last_raw (moved.sights ∙ sym (append_assoc c.publisher.view.sights (one ∷ []) (two ∷ [])))
+    ∙ last_push (c.publisher.view.sights ++ one ∷ []) two in
+    let most = subst (λ (plan : Plan). moved.raw ≤ plan.packets + plan.workers) trying.goes_on.plan
+    moved.most in
     record {
       of = of;
       of_pass = of_pass;
@@ -96,38 +120,69 @@ trying_more t b c d p q r n claims trying of of_pass same goes_on heard moved =
 
 -- ---- an answer behind tries
 
-pub asked_since : (b c d : BookFace) (client : ℕ) (request : Request) (reply : Reply) (stamp : Stamp) → GoesOn b c → IsSame b c → IsAsked c.setup c.journal d.journal client request reply stamp → IsAsked b.setup b.journal d.journal client request reply stamp
+pub asked_since : (b c d : BookFace) (client : ℕ) (request : Request) (reply : Reply)
+    (stamp : Stamp) → GoesOn b c → IsSame b c
+    → IsAsked c.setup c.journal d.journal client request reply stamp
+    → IsAsked b.setup b.journal d.journal client request reply stamp
 asked_since b c d client request reply stamp goes_on same asked =
-    subst (λ (z : SetupParts × List JournalCall). IsAsked z.0 z.1 d.journal client request reply stamp) (λ k. (goes_on.setup k, same.journal k)) asked
+    subst (λ (z : SetupParts × List JournalCall). IsAsked z.0 z.1 d.journal client request reply
+    stamp) (λ k. (goes_on.setup k, same.journal k)) asked
 
-pub given_since : (b c d : BookFace) (more : List Given) → IsSame b c → d.given ≡ c.given ++ more → d.given ≡ b.given ++ more
+pub given_since : (b c d : BookFace) (more : List Given) → IsSame b c → d.given ≡ c.given ++ more
+    → d.given ≡ b.given ++ more
 given_since b c d more same is = is ∙ ap (λ (xs : List Given). xs ++ more) same.given
 
-pub entries_since : (b c d : BookFace) (client claims : ℕ) (request : Request) (reply : Reply) → GoesOn b c → IsSame b c
-    → d.publisher.view.entries ≡ c.publisher.view.entries ++ answer_entries c.setup c.journal client claims request reply
-    → d.publisher.view.entries ≡ b.publisher.view.entries ++ answer_entries b.setup b.journal client claims request reply
+pub entries_since : (b c d : BookFace) (client claims : ℕ) (request : Request) (reply : Reply)
+    → GoesOn b c → IsSame b c
+    → d.publisher.view.entries ≡ c.publisher.view.entries
+    ++ answer_entries c.setup c.journal client claims request reply
+    → d.publisher.view.entries ≡ b.publisher.view.entries
+    ++ answer_entries b.setup b.journal client claims request reply
 entries_since b c d client claims request reply goes_on same is =
-    is ∙ ap (λ (xs : List Entry). xs ++ answer_entries c.setup c.journal client claims request reply) same.entries
-    ∙ ap (λ (z : SetupParts × List JournalCall). b.publisher.view.entries ++ answer_entries z.0 z.1 client claims request reply) (λ k. (goes_on.setup k, same.journal k))
+    is ∙ ap (λ (xs : List Entry). xs ++ answer_entries c.setup c.journal client claims request
+    reply) same.entries
+    ∙ ap (λ (z : SetupParts × List JournalCall). b.publisher.view.entries
+    ++ answer_entries z.0 z.1 client claims request reply) (λ k. (goes_on.setup k, same.journal k))
 
-pub load_since : (t : TableFace) (b c d : BookFace) (p q : ClientFace) (n claims : ℕ) → IsTrying t b c p q n → IsLoadedOnce c.publisher.view d.publisher.view claims → IsLoadedLast b.publisher.view d.publisher.view claims
+pub load_since : (t : TableFace) (b c d : BookFace) (p q : ClientFace) (n claims : ℕ)
+    → IsTrying t b c p q n → IsLoadedOnce c.publisher.view d.publisher.view claims
+    → IsLoadedLast b.publisher.view d.publisher.view claims
 load_since t b c d p q n claims trying load = record {
   raw = load.raw;
   earlier = trying.earlier;
-  sights = load.sights ∙ ap (λ (es : List Entry). c.publisher.view.sights ++ sight load.raw (length es) ∷ []) trying.same.entries
-      ∙ ap (λ (xs : List Sight). xs ++ sight load.raw (length b.publisher.view.entries) ∷ []) trying.sights
-      ∙ append_assoc b.publisher.view.sights trying.earlier (sight load.raw (length b.publisher.view.entries) ∷ []);
+  sights = load.sights ∙ ap (λ (es : List Entry). c.publisher.view.sights
+      ++ sight load.raw (length es) ∷ []) trying.same.entries
+      ∙ ap (λ (xs : List Sight). xs ++ sight load.raw (length b.publisher.view.entries) ∷ [])
+      trying.sights
+      ∙ append_assoc b.publisher.view.sights trying.earlier
+      (sight load.raw (length b.publisher.view.entries) ∷ []);
   claims_is = load.claims_is ∙ ap (λ (plan : Plan). claims_at plan load.raw) trying.goes_on.plan;
 }
 
-pub floor_since : (b c : BookFace) (p q : ClientFace) (claims : ℕ) → GoesOn b c → HeardMore p q → AreBelow c.publisher.view.plan claims (q.view.sights ++ q.view.told) → AreBelow b.publisher.view.plan claims (p.view.sights ++ p.view.told)
+pub floor_since : (b c : BookFace) (p q : ClientFace) (claims : ℕ) → GoesOn b c → HeardMore p q
+    → AreBelow c.publisher.view.plan claims (q.view.sights ++ q.view.told)
+    → AreBelow b.publisher.view.plan claims (p.view.sights ++ p.view.told)
 floor_since b c p q claims goes_on heard below =
     let same : q.view.sights ++ q.view.told ≡ (p.view.sights ++ p.view.told) ++ heard.more =
-    ap (λ (xs : List Sight). xs ++ q.view.told) heard.sights ∙ ap (λ (xs : List Sight). p.view.sights ++ xs) heard.told ∙ sym (append_assoc p.view.sights p.view.told heard.more) in
-    all_left (λ (x : Sight). claims_at b.publisher.view.plan x.raw ≤ claims) (p.view.sights ++ p.view.told) heard.more
-    (subst (λ (z : Plan × List Sight). AreBelow z.0 claims z.1) (λ k. (goes_on.plan k, same k)) below)
+    ap (λ (xs : List Sight). xs ++ q.view.told) heard.sights
+    ∙ ap (λ (xs : List Sight). p.view.sights ++ xs) heard.told
+    ∙ sym (append_assoc p.view.sights p.view.told heard.more) in
+    all_left (λ (x : Sight). claims_at b.publisher.view.plan x.raw ≤ claims) (p.view.sights
+    ++ p.view.told) heard.more
+    (subst (λ (z : Plan × List Sight). AreBelow z.0 claims z.1) (λ k. (goes_on.plan k, same k))
+    below)
 
 -- how many states were seen in all
-pub few_since : (t : TableFace) (b c d : BookFace) (p q : ClientFace) (n : ℕ) (x : Sight) → IsTrying t b c p q n → d.publisher.view.sights ≡ c.publisher.view.sights ++ x ∷ [] → IsFewLoads b.publisher.view.plan b.publisher.view d.publisher.view
+pub few_since : (t : TableFace) (b c d : BookFace) (p q : ClientFace) (n : ℕ) (x : Sight)
+    → IsTrying t b c p q n → d.publisher.view.sights ≡ c.publisher.view.sights ++ x ∷ []
+    → IsFewLoads b.publisher.view.plan b.publisher.view d.publisher.view
 few_since t b c d p q n x trying is =
-    omega (arith, ap length is, length-append c.publisher.view.sights (x ∷ []), ap length trying.sights, length-append b.publisher.view.sights trying.earlier, trying.long, trying.few)
+    omega (
+      arith,
+      ap length is,
+      length-append c.publisher.view.sights (x ∷ []),
+      ap length trying.sights,
+      length-append b.publisher.view.sights trying.earlier,
+      trying.long,
+      trying.few,
+    )

@@ -7,7 +7,8 @@ ghost use Rattle.plain_book.specs.Desk.{IsAsked};
 ghost use Rattle.plain_book.specs.Given.{given_item};
 ghost use Rattle.plain_book.specs.Journal.{base_entries};
 ghost use Rattle.live_book.specs.Books.{Agrees, new_book};
-ghost use Rattle.live_book.specs.Tries.{AreBelow, GoesOn, IsLoadedOnce, IsSame, IsStill, IsTry, IsUnder, answer_entries};
+ghost use Rattle.live_book.specs.Tries.{AreBelow, GoesOn, IsLoadedOnce, IsSame, IsStill, IsTry};
+ghost use Rattle.live_book.specs.Tries.{IsUnder, answer_entries};
 
 use crate::attempt::{Under, attempt};
 use claim_word::{ClaimTable, ClientPass, Publisher};

@@ -108,9 +108,12 @@ impl<'a> Desk for LentDesk<'a> {
 
     ghost keeps = { λ d e. IsLentSo d.table.now d.book.now e.book.now d.pass.now e.pass.now };
 
+    ghost answers_at = { λ d claims. Unit {0} };
+
     fn ask(&mut self, client: u8, request: &Request) -> Result<(Reply, Stamp), NoMemory>
         ensures asked { IfOk result (λ r. IsAsked self.old.book.now.setup self.old.book.now.journal
             self.new.book.now.journal client request.now r.0 r.1) }
+        ensures claims { IfOk result (λ r. Unit {0}) }
         ensures given { IfOk result (λ r. self.new.book.now.given
             ≡ self.old.book.now.given ++ given_item client request.now r.0 r.1 ∷ []) }
         ensures entries { IfOk result (λ r. self.new.book.now.publisher.view.entries

@@ -8,6 +8,8 @@ mod book;
 mod lent;
 mod opening;
 mod shared;
+#[cfg(test)]
+mod tests;
 
 pub use asks::{AskList, AskLists};
 pub use attempt::Under;

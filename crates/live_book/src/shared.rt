@@ -1,6 +1,7 @@
 //! What clients share: the book, and what each still asks.
 
-ghost use Rattle.std.specs.Prelude.{◌≡◌, ◌<◌, ◌++◌, ◌∷◌, [], ℕ, IfOk, IfSome, OnErr, false, length, slice_get, true};
+ghost use Rattle.std.specs.Prelude.{◌≡◌, ◌<◌, ◌++◌, ◌∷◌, [], ℕ, IfOk, IfSome, OnErr, false, length};
+ghost use Rattle.std.specs.Prelude.{slice_get, true};
 ghost use Rattle.std.specs.Option.{option_copied};
 ghost use Rattle.claim_word.specs.Faces.{IsClientOf, IsPublisherOf};
 ghost use Rattle.plain_book.specs.Desk.{IsAsked};

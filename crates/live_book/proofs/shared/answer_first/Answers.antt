@@ -5,10 +5,18 @@ use Rattle.live_book.specs.Named.{left_of}
 use Rattle.live_book.proofs.Sharing.{next_is}
 use Rattle.live_book.proofs.shared.answer_first.Goals as goal
 
-pub returns-in_ok-ask_lent-in-Some-clause-answered : goal.returns-in_ok-ask_lent-in-Some-clause-answered
+pub
+    returns-in_ok-ask_lent-in-Some-clause-answered : goal.returns-in_ok-ask_lent-in-Some-clause-answered
 returns-in_ok-ask_lent-in-Some-clause-answered c =
-    let low : c.args.client < length c.args.left.now.items = subst (λ (l : List (List Request)). c.args.client < length l) c.as_slice.ensures.value c.in-Some.ensures.there in
-    let first : Some c.in-Some.request.now ≡ slice_get (left_of c.args.left.now.items c.args.client) 0 =
-    c.in-Some.ensures.value ∙ ap (λ (l : List (List Request)). slice_get (left_of l c.args.client) 0) c.as_slice.ensures.value in
-    λ more. next_is c.args.book.now c.ask_lent.new.book c.args.left.now.items c.take_first_of.new.left.items c.args.client c.in-Some.request.now c.in_ok-ask_lent-in-Some.field-0.0 c.in_ok-ask_lent-in-Some.field-0.1
-    low first c.take_first_of.ensures c.in_ok-ask_lent-in-Some.ensures.given c.in_ok-ask_lent-in-Some.ensures.asked
+    let low : c.args.client < length c.args.left.now.items =
+    subst (λ (l : List (List Request)). c.args.client < length l) c.as_slice.ensures.value
+    c.in-Some.ensures.there in
+    let first : Some c.in-Some.request.now ≡ slice_get (left_of c.args.left.now.items c.args.client)
+    0 =
+    c.in-Some.ensures.value ∙ ap (λ (l : List (List Request)). slice_get (left_of l c.args.client)
+    0) c.as_slice.ensures.value in
+    λ more. next_is c.args.book.now c.ask_lent.new.book c.args.left.now.items
+    c.take_first_of.new.left.items c.args.client c.in-Some.request.now
+    c.in_ok-ask_lent-in-Some.field-0.0 c.in_ok-ask_lent-in-Some.field-0.1
+    low first c.take_first_of.ensures c.in_ok-ask_lent-in-Some.ensures.given
+    c.in_ok-ask_lent-in-Some.ensures.asked

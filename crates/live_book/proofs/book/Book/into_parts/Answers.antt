@@ -7,4 +7,10 @@ use Rattle.live_book.proofs.book.Book.into_parts.Goals as goal
 pub returns-clause-agrees : goal.returns-clause-agrees
 returns-clause-agrees c =
     let b = c.self.inside in
-    subst Agrees c.self.view_is (agrees_is (record { setup = b.setup; publisher = b.publisher; journal = b.kept.journal; given = b.given }) (parts b.kept) c.self.invariant refl)
+    subst Agrees c.self.view_is
+    (agrees_is (record {
+      setup = b.setup;
+      publisher = b.publisher;
+      journal = b.kept.journal;
+      given = b.given;
+    }) (parts b.kept) c.self.invariant refl)
