@@ -8,7 +8,7 @@ use Rattle.std.proofs.lemmas.List.{get_or-map, length-map}
 use Rattle.std.proofs.lemmas.List.Elements.{All-head, All-tail, All-cons, All-nil}
 use Rattle.map_entry.specs.declared.change.Change.{Change}
 use Rattle.map_entry.specs.Action.{OutputChangeParts, AreAscending, IsOutputChange, IsAction}
-use Rattle.capture_file.specs.RecordReading.{rises_from, rises, channels_rise, is_ordered}
+use Rattle.capture_file.specs.Requests.{rises_from, rises, channels_rise, is_ordered}
 
 pub both_true : (a b : Bool) → (a && b) ≡ true → (a ≡ true) × (b ≡ true)
 both_true true b e = (refl, e)

@@ -1,75 +1,272 @@
--- What reading a capture says of the bytes.
-use Rattle.std.proofs.Common.{◌≡◌, ℕ, ◌-◌, ◌*◌, ◌/◌, ◌<◌, ◌≤◌, List, ◌++◌, length, drop, Some, None, refl, sym, ap, subst, ◌∙◌, arith}
-use Rattle.std.proofs.lemmas.List.{length-append, drop_at}
-use Rattle.exact_text.proofs.Exact.{IsBytes, some_is}
-use Rattle.std.specs.List.{sum_by}
-use Rattle.std.proofs.Math.Nat.{mul-div_cancel}
-use Rattle.capture_file.specs.Capture.{CaptureParts, capture_text, claims_of}
-use Rattle.capture_file.specs.CaptureReading.{parts_of, raw_at, IsTested}
-use Rattle.capture_file.specs.Plain.{IsPlain}
-use Rattle.capture_file.proofs.CaptureLaws.{Raw, raw_text, FitsRaw, raw_takes, raw_again}
-use Rattle.capture_file.proofs.PlainLaws.{setup_fits, setup_short, items_read, tested_plain, plain_tested}
+-- A walk over the records behind an opening comes to a capture exactly where its text stands, and to a fault exactly at the first.
+use Rattle.std.proofs.Common.{◌≡◌, ℕ, ◌+◌, ◌^◌, ◌<◌, Bool, true, false, cond, eqb, List, [], ◌∷◌, ◌++◌, length, take, drop, map, Result, Ok, Err, refl, sym, ap, subst, ◌∙◌, append_assoc, arith, inl, inr}
+use Rattle.std.specs.Prelude.{IfOk, IfErr}
+use Rattle.std.specs.List.{flat_map, AllByRecursion}
+use Rattle.std.proofs.lemmas.Bool.{eqb-true}
+use Rattle.std.proofs.lemmas.List.{append-nil, take_at, take-append-drop, length-append, length-drop}
+use Rattle.std.proofs.lemmas.List.Concat.{flat_map-cons}
+use Rattle.std.proofs.lemmas.List.Elements.{recursion_from_All, All-from_recursion}
+use Rattle.io_caps.specs.declared.memory.Or.{Or}
+use Rattle.io_caps.specs.declared.memory.Or.TheVariants.{Fault, NoMemory}
+use Rattle.map_entry.specs.Setup.{SetupParts}
+use Rattle.exact_text.specs.Spellings.{record_text}
+use Rattle.capture_file.specs.declared.items.Item.{Item}
+use Rattle.capture_file.specs.declared.items.Item.TheVariants.{Packet, Piece, Ask, Work}
+use Rattle.capture_file.specs.declared.before.Sort.{Sort}
+use Rattle.capture_file.specs.declared.before.Sort.TheVariants.{AnItem, AnEnd, AFault}
+use Rattle.capture_file.specs.declared.fault.CaptureFault.{CaptureFault}
+use Rattle.capture_file.specs.declared.fault.CaptureKind.{CaptureKind}
+use Rattle.capture_file.specs.declared.fault.CaptureKind.TheVariants.{Cut, Tag, Order}
+use Rattle.capture_file.specs.declared.walk.Step.TheVariants.{Next, Last}
+use Rattle.capture_file.specs.Tags.{end_tag}
+use Rattle.capture_file.specs.Items.{item, item_tag, item_body, end_text, IsItemThere}
+use Rattle.capture_file.specs.Walk.{IfFault, IsRecord, text_of, Leads, Front, IsFaulty, FaultAt, EndsAt}
+use Rattle.capture_file.specs.Capture.{CaptureParts, capture_of, capture_magic, Opens, AreItems, IsCaptureText, IsCaptureAt, IsAnswer}
+use Rattle.capture_file.specs.Fault.{BeforeParts, before, sort_of, IsRead, IsEnded, IsLater, Judges, StopsAt, FaultIs, IsRefusal}
+use Rattle.capture_file.proofs.RecordLaws.{item_law}
+use Rattle.capture_file.proofs.Once.{judges_once}
+use Rattle.capture_file.proofs.OpeningLaws.{opens_once, opens_magic, opens_no_fault, no_device_once}
+use Rattle.capture_file.proofs.WalkLaws.{fault_once, end_once, end_no_fault}
 
-abbrev raw_of : CaptureParts → Raw
-raw_of c = ((c.setup.device, c.setup.rows), c.items)
+-- ---- records behind the device are the texts of the items that they add
 
-pub rest_shorter : (bytes : List ℕ) (x : Raw) (rest : List ℕ) → IsBytes bytes → raw_at bytes ≡ Some (x, rest) → length rest ≤ length bytes
-rest_shorter bytes x rest fits e =
-    let t = raw_takes bytes x rest fits e in
-    omega (arith, ap length t.0.parts, length-append (raw_text x) rest)
+item_same : (setup : SetupParts) (tag : ℕ) (body : List ℕ) (x : Item) → IsRead setup tag body x → record_text tag body ≡ item.text x
+item_same setup tag body x h =
+    let is : item_tag x ≡ tag = (item_law tag).tells x h.1.0 in
+    subst (λ (n : ℕ). record_text tag body ≡ record_text n ((item_body n).text x)) (sym is) (ap (λ (z : List ℕ). record_text tag z) h.1.1)
 
--- the place behind a text that bytes begin with
-place_behind : (bytes text rest : List ℕ) → bytes ≡ text ++ rest → drop (length bytes - length rest) bytes ≡ rest
-place_behind bytes text rest parts =
-    let place : length bytes - length rest ≡ length text = omega (arith, ap length parts, length-append text rest) in
-    ap (λ (n : ℕ). drop n bytes) place ∙ ap (drop (length text)) parts ∙ drop_at text rest (length text) refl
+item_fits : (setup : SetupParts) (tag : ℕ) (body : List ℕ) (x : Item) → IsRecord (tag, body) → IsRead setup tag body x → item.Fits x
+item_fits setup tag body x fits h =
+    let is : item_tag x ≡ tag = (item_law tag).tells x h.1.0 in
+    subst (λ (n : ℕ). (n < 256) × ((length ((item_body n).text x) < 256 ^ 4) × (item_body n).Fits x)) (sym is) (fits.0, (subst (λ (z : List ℕ). length z < 256 ^ 4) h.1.1 fits.1, h.1.0))
 
-pub is_found : (bytes : List ℕ) (x : Raw) (rest : List ℕ) (c : CaptureParts) → IsBytes bytes → raw_at bytes ≡ Some (x, rest) → IsTested c → c ≡ parts_of x.0.0 x.0.1 x.1 c.ticks
-    → IsPlain c × (length bytes - length rest ≤ length bytes) × (bytes ≡ capture_text c ++ drop (length bytes - length rest) bytes)
-is_found bytes x rest c fits e tested is =
-    let t = raw_takes bytes x rest fits e in
-    let same : x ≡ raw_of c = sym (ap raw_of is) in
-    let raw : FitsRaw (raw_of c) = subst FitsRaw same t.1 in
-    let parts : bytes ≡ capture_text c ++ rest = subst (λ (y : Raw). bytes ≡ raw_text y ++ rest) same t.0.parts in
-    (tested_plain c tested raw.0 raw.2, omega arith, subst (λ (z : List ℕ). bytes ≡ capture_text c ++ z) (sym (place_behind bytes (capture_text c) rest parts)) parts)
+one_item : (sort : Sort) (b : BeforeParts) (tag : ℕ) (body : List ℕ) (next : BeforeParts) → IsLater sort b tag body (Ok (Next next))
+    → (x : Item) × (IsRead b.setup tag body x × (next ≡ before b.setup (b.items ++ x ∷ [])))
+one_item (AFault kind) b tag body next h = absurd cc
+one_item AnItem b tag body next h = h
+one_item AnEnd b tag body next h = absurd h
 
-plain_read : (c : CaptureParts) (bytes rest : List ℕ) → IsPlain c → bytes ≡ capture_text c ++ rest → raw_at bytes ≡ Some (raw_of c, rest)
-plain_read c bytes rest plain parts =
-    let fits = setup_fits c plain in
-    ap raw_at parts ∙ raw_again (raw_of c) rest (fits, setup_short (c.setup.device, c.setup.rows) fits, items_read c plain)
+record Adds (setup : SetupParts) (items : List Item) (records : List (ℕ × List ℕ)) (end : BeforeParts) : Type 0 where
+  pub more : List Item
+  pub is : end ≡ before setup (items ++ more)
+  pub text : flat_map text_of records ≡ flat_map item.text more
+  pub there : AllByRecursion (IsItemThere (length setup.device.inputs)) more
+  pub fit : AllByRecursion item.Fits more
 
-pub is_none : (bytes : List ℕ) → raw_at bytes ≡ None → (c : CaptureParts) (rest : List ℕ) → IsPlain c → bytes ≡ capture_text c ++ rest → ⊥
-is_none bytes e c rest plain parts = let read = plain_read c bytes rest plain parts in absurd cc
+adds : (setup : SetupParts) (items : List Item) (records : List (ℕ × List ℕ)) (end : BeforeParts) → Leads Judges (before setup items) records end → Adds setup items records end
+adds setup items [] end h = record { more = []; is = sym h ∙ ap (λ (l : List Item). before setup l) (sym (append-nil items)); text = refl; there = tt; fit = tt }
+adds setup items (r ∷ records) end h =
+    let t = one_item (sort_of r.0) (before setup items) r.0 r.1 h.1.0 h.1.1.0 in
+    let u = adds setup (items ++ t.0 ∷ []) records end (subst (λ (b : BeforeParts). Leads Judges b records end) t.1.1 h.1.1.1) in
+    record {
+      more = t.0 ∷ u.more;
+      is = u.is ∙ ap (λ (l : List Item). before setup l) (append_assoc items (t.0 ∷ []) u.more);
+      text = flat_map-cons text_of r records ∙ ap (λ (z : List ℕ). z ++ flat_map text_of records) (item_same setup r.0 r.1 t.0 t.1.0) ∙ ap (λ (z : List ℕ). item.text t.0 ++ z) u.text ∙ sym (flat_map-cons item.text t.0 u.more);
+      there = (t.1.0.0, u.there);
+      fit = (item_fits setup r.0 r.1 t.0 h.0 t.1.0, u.fit);
+    }
 
-pub is_not_tested : (bytes : List ℕ) (x : Raw) (after : List ℕ) → raw_at bytes ≡ Some (x, after) → ((ticks : ℕ) → IsTested (parts_of x.0.0 x.0.1 x.1 ticks) → ⊥) → (c : CaptureParts) (rest : List ℕ) → IsPlain c → bytes ≡ capture_text c ++ rest → ⊥
-is_not_tested bytes x after e bad c rest plain parts =
-    let read = plain_read c bytes rest plain parts in
-    let same = some_is (raw_of c, rest) (x, after) (sym read ∙ e) in
-    let is : raw_of c ≡ x = ap (λ (p : Raw × List ℕ). p.0) same in
-    bad c.ticks (subst (λ (y : Raw). IsTested (parts_of y.0.0 y.0.1 y.1 c.ticks)) is (plain_tested c plain))
+added : (setup : SetupParts) (records : List (ℕ × List ℕ)) (end : BeforeParts) (a : Adds setup [] records end) → AreItems (length setup.device.inputs) a.more
+added setup records end a = record {
+  there = All-from_recursion (IsItemThere (length setup.device.inputs)) a.more a.there;
+  fit = All-from_recursion item.Fits a.more a.fit;
+}
 
--- what a capture is made of, and its ticks
-abbrev built : Raw → ℕ → CaptureParts
-built x ticks = parts_of x.0.0 x.0.1 x.1 ticks
+-- ---- the items' texts lead there
 
--- Captures that are made of the same have the same ticks, since there is an output.
-same_ticks : (a b : CaptureParts) → IsTested a → IsTested b → raw_of a ≡ raw_of b → a.ticks ≡ b.ticks
-same_ticks a b fits_a fits_b same =
-    let n = length b.setup.device.outputs in
-    let some : 0 < n = omega (arith, fits_b.0.1.device.bounds.some_output) in
-    let outputs : length a.setup.device.outputs ≡ n = ap (λ (x : Raw). length x.0.0.outputs) same in
-    let items = ap (λ (x : Raw). sum_by claims_of x.1) same in
-    let work : a.ticks * n ≡ b.ticks * n = ap (λ (m : ℕ). a.ticks * m) (sym outputs) ∙ sym fits_a.1.0 ∙ items ∙ fits_b.1.0 in
-    sym (mul-div_cancel a.ticks some) ∙ ap (λ (m : ℕ). m / n) work ∙ mul-div_cancel b.ticks some
+abbrev record_for : Item → ℕ × List ℕ
+record_for x = (item_tag x, (item_body (item_tag x)).text x)
 
-pub is_only : (bytes : List ℕ) (x : Raw) (after : List ℕ) (found : CaptureParts) → raw_at bytes ≡ Some (x, after) → IsTested found → found ≡ built x found.ticks
-    → (c : CaptureParts) (rest : List ℕ) → IsPlain c → bytes ≡ capture_text c ++ rest → (c ≡ found) × (rest ≡ drop (length bytes - length after) bytes)
-is_only bytes x after found e tested is c rest plain parts =
-    let read = plain_read c bytes rest plain parts in
-    let same = some_is (raw_of c, rest) (x, after) (sym read ∙ e) in
-    let raw : raw_of c ≡ x = ap (λ (p : Raw × List ℕ). p.0) same in
-    let behind : rest ≡ after = ap (λ (p : Raw × List ℕ). p.1) same in
-    let ticks : c.ticks ≡ found.ticks = same_ticks c found (plain_tested c plain) tested (raw ∙ sym (ap raw_of is)) in (
-      ap (λ (y : Raw). built y c.ticks) raw ∙ ap (built x) ticks ∙ sym is,
-      sym (ap (λ (z : List ℕ). drop (length bytes - length z) bytes) (sym behind) ∙ place_behind bytes (capture_text c) rest parts),
-    )
+records_text : (items : List Item) → flat_map text_of (map record_for items) ≡ flat_map item.text items
+records_text [] = refl
+records_text (x ∷ items) = flat_map-cons text_of (record_for x) (map record_for items) ∙ ap (λ (z : List ℕ). item.text x ++ z) (records_text items) ∙ sym (flat_map-cons item.text x items)
+
+is_item : (x : Item) → sort_of (item_tag x) ≡ AnItem
+is_item (Packet input bytes) = refl
+is_item (Piece client bytes) = refl
+is_item (Ask client request) = refl
+is_item (Work claims) = refl
+
+item_taken : (setup : SetupParts) (items : List Item) (x : Item) → IsItemThere (length setup.device.inputs) x → item.Fits x
+    → IsLater (sort_of (item_tag x)) (before setup items) (item_tag x) ((item_body (item_tag x)).text x) (Ok (Next (before setup (items ++ x ∷ []))))
+item_taken setup items x there fits =
+    subst (λ (s : Sort). IsLater s (before setup items) (item_tag x) ((item_body (item_tag x)).text x) (Ok (Next (before setup (items ++ x ∷ []))))) (sym (is_item x)) (x, ((there, (fits.1.1, refl)), refl))
+
+items_lead : (setup : SetupParts) (items more : List Item) → AllByRecursion (IsItemThere (length setup.device.inputs)) more → AllByRecursion item.Fits more
+    → Leads Judges (before setup items) (map record_for more) (before setup (items ++ more))
+items_lead setup items [] there fits = ap (λ (l : List Item). before setup l) (sym (append-nil items))
+items_lead setup items (x ∷ more) there fits = (
+  (fits.0.0, fits.0.1.0),
+  (
+    before setup (items ++ x ∷ []),
+    (
+      item_taken setup items x there.0 fits.0,
+      subst (λ (l : List Item). Leads Judges (before setup (items ++ x ∷ [])) (map record_for more) (before setup l)) (append_assoc items (x ∷ []) more) (items_lead setup (items ++ x ∷ []) more there.1 fits.1),
+    ),
+  ),
+)
+
+items_front : (setup : SetupParts) (items : List Item) (behind : List ℕ) → AreItems (length setup.device.inputs) items → Front Judges (before setup []) (flat_map item.text items ++ behind) (before setup items) behind
+items_front setup items behind good = record {
+  records = map record_for items;
+  parts = ap (λ (z : List ℕ). z ++ behind) (sym (records_text items));
+  leads = items_lead setup [] items (recursion_from_All (IsItemThere (length setup.device.inputs)) items good.there) (recursion_from_All item.Fits items good.fit);
+}
+
+-- ---- the last record
+
+ends : (a b c : Bool) → cond a (AFault Order) (cond b AnItem (cond c AnEnd (AFault Tag))) ≡ AnEnd → c ≡ true
+ends true b c e = absurd cc
+ends false true c e = absurd cc
+ends false false true e = refl
+ends false false false e = absurd cc
+
+last_is : (sort : Sort) (b : BeforeParts) (tag : ℕ) (body : List ℕ) (c : CaptureParts) → (sort ≡ AnEnd → tag ≡ end_tag) → IsLater sort b tag body (Ok (Last c)) → (tag ≡ end_tag) × IsEnded b body (Ok (Last c))
+last_is (AFault kind) b tag body c is h = absurd cc
+last_is AnItem b tag body c is h = absurd h
+last_is AnEnd b tag body c is h = (is refl, h)
+
+-- ---- what the walk comes to
+
+-- an opening, and what stands behind it in other words
+opens_as : (bytes : List ℕ) (setup : SetupParts) (behind other : List ℕ) → behind ≡ other → Opens bytes setup behind → Opens bytes setup other
+opens_as bytes setup behind other same h = subst (λ (z : List ℕ). Opens bytes setup z) same h
+
+split_front : (magic first items end rest : List ℕ) → magic ++ (first ++ (items ++ (end ++ rest))) ≡ (magic ++ (first ++ (items ++ end))) ++ rest
+split_front magic first items end rest = simp append_assoc refl
+
+-- a text in front of bytes, by its place
+front_of : (bytes text rest : List ℕ) (at : ℕ) → bytes ≡ text ++ rest → at + length rest ≡ length bytes → take at bytes ≡ text
+front_of bytes text rest at parts place = ap (take at) parts ∙ take_at text rest at (omega (arith, place, ap length parts, length-append text rest))
+
+-- an opening of a whole is one of its front
+opens_front : (bytes : List ℕ) (setup : SetupParts) (items end rest : List ℕ) (at : ℕ) → Opens bytes setup (items ++ (end ++ rest)) → at + length rest ≡ length bytes → Opens (take at bytes) setup (items ++ end)
+opens_front bytes setup items end rest at h place = record {
+  of = h.of;
+  device = h.device;
+  parts = front_of bytes (capture_magic ++ (text_of h.of ++ (items ++ end))) rest at (h.parts ∙ split_front capture_magic (text_of h.of) items end rest) place;
+}
+
+-- an opening of a front is one of the whole
+opens_whole : (bytes : List ℕ) (setup : SetupParts) (items end rest : List ℕ) (text : List ℕ) → bytes ≡ text ++ rest → Opens text setup (items ++ end) → Opens bytes setup (items ++ (end ++ rest))
+opens_whole bytes setup items end rest text parts h = record {
+  of = h.of;
+  device = h.device;
+  parts = parts ∙ ap (λ (z : List ℕ). z ++ rest) h.parts ∙ sym (split_front capture_magic (text_of h.of) items end rest);
+}
+
+-- where a walk ends there is a capture
+pub end_captures : (bytes : List ℕ) (setup : SetupParts) (behind : List ℕ) (c : CaptureParts) (at : ℕ) → Opens bytes setup behind → EndsAt Judges (before setup []) (length bytes) behind c at → IsCaptureAt bytes c at
+end_captures bytes setup behind c at opens h =
+    let a = adds setup [] h.front.records h.before h.front.leads in
+    let judged : IsLater (sort_of h.last.0) (before setup a.more) h.last.0 h.last.1 (Ok (Last c)) = subst (λ (b : BeforeParts). Judges b h.last.0 h.last.1 (Ok (Last c))) a.is h.judged in
+    let l = last_is (sort_of h.last.0) (before setup a.more) h.last.0 h.last.1 c (λ e. eqb-true h.last.0 end_tag (ends _ _ (eqb h.last.0 end_tag) e)) judged in
+    let is : c ≡ capture_of setup a.more c.ticks = l.1.1.1.0 in
+    let last : text_of h.last ≡ end_text = ap (λ (n : ℕ). record_text n h.last.1) l.0 ∙ ap (λ (z : List ℕ). record_text end_tag z) l.1.0 in
+    let parts : behind ≡ flat_map item.text a.more ++ (end_text ++ h.rest) =
+    h.front.parts ∙ ap (λ (z : List ℕ). z ++ h.behind) a.text ∙ ap (λ (z : List ℕ). flat_map item.text a.more ++ z) (h.stands.parts ∙ ap (λ (z : List ℕ). z ++ h.rest) last) in
+    let text : IsCaptureText (capture_of setup a.more c.ticks) (take at bytes) = record {
+      opens = opens_front bytes setup (flat_map item.text a.more) end_text h.rest at (opens_as bytes setup behind _ parts opens) h.place;
+      items = added setup h.front.records h.before a;
+      work = l.1.1.1.1;
+    } in
+    record { within = omega (arith, h.place); text = subst (λ (d : CaptureParts). IsCaptureText d (take at bytes)) (sym is) text }
+
+-- what a walk comes to, behind the opening
+record Comes (bytes : List ℕ) (setup : SetupParts) (There : List ℕ → Type 0) : Type 0 where
+  pub behind : List ℕ
+  pub opens : Opens bytes setup behind
+  pub there : There behind
+
+-- where there is a capture a walk ends
+capture_ends : (bytes : List ℕ) (c : CaptureParts) (at : ℕ) → IsCaptureAt bytes c at → Comes bytes c.setup (λ behind. EndsAt Judges (before c.setup []) (length bytes) behind c at)
+capture_ends bytes c at h =
+    let rest = drop at bytes in
+    let items = flat_map item.text c.items in
+    record {
+      behind = items ++ (end_text ++ rest);
+      opens = opens_whole bytes c.setup items end_text rest (take at bytes) (sym (take-append-drop at bytes)) h.text.opens;
+      there = record {
+        before = before c.setup c.items;
+        behind = end_text ++ rest;
+        front = items_front c.setup c.items (end_text ++ rest) h.text.items;
+        last = (end_tag, []);
+        rest = rest;
+        stands = record { parts = refl; fits = (omega arith, omega arith) };
+        judged = (refl, (h.text.opens.device.base.0.device.bounds.some_output, (refl, h.text.work)));
+        place = omega (arith, h.within, length-drop at bytes);
+      };
+    }
+
+-- where a walk finds a fault, bytes stop
+pub fault_stops : (bytes : List ℕ) (setup : SetupParts) (behind : List ℕ) (at : ℕ) (kind : CaptureKind) → Opens bytes setup behind → FaultAt Judges Cut (before setup []) (length bytes) behind at kind → FaultIs bytes at kind
+fault_stops bytes setup behind at kind opens h =
+    let a = adds setup [] h.front.records h.before h.front.leads in
+    inr (inr (record {
+      setup = setup;
+      items = a.more;
+      behind = h.behind;
+      opens = opens_as bytes setup behind _ (h.front.parts ∙ ap (λ (z : List ℕ). z ++ h.behind) a.text) opens;
+      good = added setup h.front.records h.before a;
+      place = h.place;
+      faulty = subst (λ (b : BeforeParts). IsFaulty Judges Cut b h.behind kind) a.is h.faulty;
+    }))
+
+-- where bytes stop, a walk finds a fault
+stops_fault : (bytes : List ℕ) (at : ℕ) (kind : CaptureKind) (h : StopsAt bytes at kind) → Comes bytes h.setup (λ behind. FaultAt Judges Cut (before h.setup []) (length bytes) behind at kind)
+stops_fault bytes at kind h = record {
+  behind = flat_map item.text h.items ++ h.behind;
+  opens = h.opens;
+  there = record { before = before h.setup h.items; behind = h.behind; front = items_front h.setup h.items h.behind h.good; place = h.place; faulty = h.faulty };
+}
+
+-- ---- one outcome
+
+-- what a walk comes to behind one opening it comes to behind the other, which is the same
+moved : (bytes : List ℕ) (a b : SetupParts) (u : List ℕ) (There : SetupParts → List ℕ → Type 0) → Opens bytes a u → (k : Comes bytes b (There b)) → There a u
+moved bytes a b u There opens k =
+    let same = opens_once bytes a b u k.behind opens k.opens in
+    subst (λ (s : SetupParts). There s u) (sym same.0) (subst (λ (z : List ℕ). There b z) (sym same.1) k.there)
+
+-- one capture stands at the front of bytes, to one place
+capture_once : (bytes : List ℕ) (c d : CaptureParts) (at to : ℕ) → IsCaptureAt bytes c at → IsCaptureAt bytes d to → (at ≡ to) × (c ≡ d)
+capture_once bytes c d at to h k =
+    let x = capture_ends bytes c at h in
+    end_once Judges judges_once (before c.setup []) (length bytes) x.behind at to c d x.there (moved bytes c.setup d.setup x.behind (λ s z. EndsAt Judges (before s []) (length bytes) z d to) x.opens (capture_ends bytes d to k))
+
+-- where a capture stands there is no fault
+capture_no_fault : (bytes : List ℕ) (c : CaptureParts) (at to : ℕ) (kind : CaptureKind) → IsCaptureAt bytes c at → FaultIs bytes to kind → ⊥
+capture_no_fault bytes c at to kind h (inl k) = let x = capture_ends bytes c at h in opens_magic bytes c.setup x.behind x.opens k.0
+capture_no_fault bytes c at to kind h (inr (inl k)) = let x = capture_ends bytes c at h in opens_no_fault bytes c.setup x.behind to kind x.opens k
+capture_no_fault bytes c at to kind h (inr (inr k)) =
+    let x = capture_ends bytes c at h in
+    end_no_fault Judges Cut judges_once (before c.setup []) (length bytes) x.behind at to c kind x.there (moved bytes c.setup k.setup x.behind (λ s z. FaultAt Judges Cut (before s []) (length bytes) z to kind) x.opens (stops_fault bytes to kind k))
+
+-- there is one first fault
+fault_is_once : (bytes : List ℕ) (at to : ℕ) (e f : CaptureKind) → FaultIs bytes at e → FaultIs bytes to f → (at ≡ to) × (e ≡ f)
+fault_is_once bytes at to e f (inl h) (inl k) = (h.1.0 ∙ sym k.1.0, h.1.1 ∙ sym k.1.1)
+fault_is_once bytes at to e f (inl h) (inr (inl k)) = absurd (h.0 k.behind k.parts)
+fault_is_once bytes at to e f (inl h) (inr (inr k)) = absurd (opens_magic bytes k.setup _ k.opens h.0)
+fault_is_once bytes at to e f (inr (inl h)) (inl k) = absurd (k.0 h.behind h.parts)
+fault_is_once bytes at to e f (inr (inl h)) (inr (inl k)) = no_device_once bytes at to e f h k
+fault_is_once bytes at to e f (inr (inl h)) (inr (inr k)) = absurd (opens_no_fault bytes k.setup _ at e k.opens h)
+fault_is_once bytes at to e f (inr (inr h)) (inl k) = absurd (opens_magic bytes h.setup _ h.opens k.0)
+fault_is_once bytes at to e f (inr (inr h)) (inr (inl k)) = absurd (opens_no_fault bytes h.setup _ to f h.opens k)
+fault_is_once bytes at to e f (inr (inr h)) (inr (inr k)) =
+    let x = stops_fault bytes at e h in
+    fault_once Judges Cut judges_once (before h.setup []) (length bytes) x.behind at to e f x.there (moved bytes h.setup k.setup x.behind (λ s z. FaultAt Judges Cut (before s []) (length bytes) z to f) x.opens (stops_fault bytes to f k))
+
+-- ---- what is answered
+
+abbrev Answer : Type 0
+Answer = Result (CaptureParts × ℕ) (Or CaptureFault)
+
+pub answers : (bytes : List ℕ) (r : Answer) → IfOk r (λ x. IsCaptureAt bytes x.0 x.1) → IfErr r (λ e. IfFault e (λ f. FaultIs bytes f.at f.kind)) → (c : CaptureParts) (at : ℕ) → IsCaptureAt bytes c at → IsAnswer r c at
+answers bytes (Ok x) found fault c at h = let same = capture_once bytes x.0 c x.1 at found h in (same.1, same.0)
+answers bytes (Err (Fault f)) found fault c at h = capture_no_fault bytes c at f.at f.kind h fault
+answers bytes (Err NoMemory) found fault c at h = tt
+
+pub refuses : (bytes : List ℕ) (r : Answer) → IfOk r (λ x. IsCaptureAt bytes x.0 x.1) → IfErr r (λ e. IfFault e (λ f. FaultIs bytes f.at f.kind)) → (at : ℕ) (kind : CaptureKind) → FaultIs bytes at kind → IsRefusal r at kind
+refuses bytes (Ok x) found fault at kind h = capture_no_fault bytes x.0 x.1 at kind found h
+refuses bytes (Err (Fault f)) found fault at kind h = fault_is_once bytes f.at at f.kind kind fault h
+refuses bytes (Err NoMemory) found fault at kind h = tt

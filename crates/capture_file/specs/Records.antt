@@ -1,81 +1,60 @@
--- How the records of a capture behind its device are spelled. (This project's own.)
-use Rattle.std.specs.Prelude.{ℕ, ◌+◌, ◌<◌, ◌^◌, List, [], ◌∷◌, ◌++◌, length}
-use Rattle.std.specs.List.{flat_map, AllByRecursion}
-use Rattle.byteorder.specs.Endian.{big_bytes}
-use Rattle.exact_text.specs.Spellings.{record_text}
-use Rattle.map_entry.specs.Action.{OutputChangeParts}
-use Rattle.map_entry.specs.declared.change.Change.{Change}
-use Rattle.map_entry.specs.declared.cell.Cell.{Cell}
-use Rattle.map_entry.specs.declared.cell.Cell.TheVariants.{Unrouted, From}
-use Rattle.capture_file.specs.declared.records.Item.{Item}
-use Rattle.capture_file.specs.declared.records.Item.TheVariants.{Packet, Ask, Work}
-use Rattle.capture_file.specs.declared.requests.Request.{Request}
-use Rattle.capture_file.specs.declared.requests.Request.TheVariants.{Activate}
-use Rattle.capture_file.specs.declared.requests.When.{When}
-use Rattle.capture_file.specs.declared.requests.When.TheVariants.{Now}
-use Rattle.capture_file.specs.declared.tags.TheConstants.{PACKET, ASK, WORK, END, ACTIVATE_NOW}
-use Rattle.capture_file.specs.Device.{cell_text}
+-- The records of a history, in the order of a result. (This project's own.)
+use Rattle.std.specs.Prelude.{◌≡◌, ℕ, ◌+◌, ◌==◌, List, ◌++◌, length, map, Option, Some, None}
+use Rattle.std.specs.List.{filter, filter_map, flat_map, range_with_len}
+use Rattle.plain_book.specs.declared.calls.JournalCall.{JournalCall}
+use Rattle.plain_book.specs.declared.history.ClaimItem.{ClaimItem}
+use Rattle.plain_book.specs.declared.history.ReplyItem.{ReplyItem}
+use Rattle.plain_book.specs.declared.history.History.{History}
+use Rattle.capture_file.specs.declared.entries.ResultItem.{ResultItem}
+use Rattle.capture_file.specs.declared.entries.ResultItem.TheVariants.{Claim, Call, Reply}
 
--- ---- plain requests
+-- the calls that were accepted at a number of claims
+abbrev pub calls_at : ℕ → List JournalCall → List JournalCall
+calls_at claims journal = filter (λ c. c.at == claims) journal
 
--- the channel and its cell
-abbrev pub change_text : Change → List ℕ
-change_text c = c.channel ∷ cell_text c.cell
+-- the replies that were given at a number of claims
+abbrev pub replies_at : ℕ → List ReplyItem → List ReplyItem
+replies_at claims replies = filter (λ r. r.stamp.claims == claims) replies
 
--- the output, the number of channels, and the channels with their cells
-abbrev pub output_change_text : OutputChangeParts → List ℕ
-output_change_text o = o.output ∷ length o.changes ∷ flat_map change_text o.changes
+-- the claim of a number, where there is one
+abbrev pub claim_at : ℕ → List ClaimItem → List ClaimItem
+claim_at number claims = filter (λ c. c.k == number) claims
 
--- the number of outputs, and the outputs with their channels
-abbrev pub action_text : List OutputChangeParts → List ℕ
-action_text action = length action ∷ flat_map output_change_text action
+-- the records at a number of claims: the calls that were accepted then, the replies that were given then, and the claim
+unfoldable pub records_at : History → ℕ → List ResultItem
+records_at h claims =
+    map (λ c. Call c) (calls_at claims h.journal)
+    ++ (map (λ r. Reply r) (replies_at claims h.replies)
+    ++ map (λ c. Claim c) (claim_at claims h.claims))
 
--- when an activation takes effect: at once
-abbrev pub when_text : When → List ℕ
-when_text Now = ACTIVATE_NOW ∷ []
+-- the records from one number of claims on, at so many numbers
+abbrev pub records_from : History → ℕ → ℕ → List ResultItem
+records_from h from count = flat_map (records_at h) (range_with_len from count)
 
--- when, and the action
-abbrev pub request_text : Request → List ℕ
-request_text (Activate when action) = when_text when ++ action_text action
+-- the records of a history: those at each number of claims, from 0 to the last one
+abbrev pub records_of : History → List ResultItem
+records_of h = records_from h 0 (length h.claims + 1)
 
--- ---- records
+-- ---- what records tell
 
--- a record behind the device: a packet with its input, a request with its client, or a number of
--- claims
-abbrev pub item_text : Item → List ℕ
-item_text (Packet input bytes) = record_text PACKET (input ∷ bytes)
-item_text (Ask client request) = record_text ASK (client ∷ request_text request)
-item_text (Work claims) = record_text WORK (big_bytes 4 claims)
+-- the claim of a record
+abbrev pub if_claim : ResultItem → Option ClaimItem
+if_claim (Claim c) = Some c
+if_claim other = None
 
--- the last record
-abbrev pub end_text : List ℕ
-end_text = record_text END []
+-- the call of a record
+abbrev pub if_call : ResultItem → Option JournalCall
+if_call (Call c) = Some c
+if_call other = None
 
--- ---- what the fields can hold
+-- the reply of a record
+abbrev pub if_reply : ResultItem → Option ReplyItem
+if_reply (Reply r) = Some r
+if_reply other = None
 
--- an unrouted cell's input number is no other cell's
-abbrev pub FitsCell : Cell → Type 0
-FitsCell Unrouted = Unit {0}
-FitsCell (From input channel) = (input < 255) × (channel < 256)
-
--- a channel's number is that of one byte, and its cell fits two
-abbrev pub FitsChange : Change → Type 0
-FitsChange c = (c.channel < 256) × FitsCell c.cell
-
--- the output's number and the number of channels are those of one byte, and each change fits
-abbrev pub FitsOutputChange : OutputChangeParts → Type 0
-FitsOutputChange o = (o.output < 256) × (length o.changes < 256) × AllByRecursion FitsChange o.changes
-
--- the number of outputs is that of one byte, and what is changed of each fits
-abbrev pub FitsAction : List OutputChangeParts → Type 0
-FitsAction action = (length action < 256) × AllByRecursion FitsOutputChange action
-
--- the action of an activation fits its fields
-abbrev pub FitsRequest : Request → Type 0
-FitsRequest (Activate when action) = FitsAction action
-
--- a record's numbers are in the range of their fields, and its body in that of its length
-abbrev pub FitsItem : Item → Type 0
-FitsItem (Packet input bytes) = (input < 256) × (length bytes + 1 < 2 ^ 32)
-FitsItem (Ask client request) = (client < 256) × FitsRequest request
-FitsItem (Work claims) = claims < 2 ^ 32
+-- Nothing of a history is left out of its records: they have all its calls, all its replies and all its claims, each once and in
+-- order.
+pub record ShowsAll (h : History) : Type 0 where
+  pub calls : filter_map if_call (records_of h) ≡ h.journal
+  pub replies : filter_map if_reply (records_of h) ≡ h.replies
+  pub claims : filter_map if_claim (records_of h) ≡ h.claims

@@ -1,126 +1,140 @@
--- How a history is spelled as a result. (This project's own.)
-use Rattle.std.specs.Prelude.{All, ◌≡◌, ℕ, ◌+◌, ◌<◌, ◌≤◌, ◌^◌, ◌⊎◌, ◌==◌, List, [], ◌∷◌, ◌++◌, length, map, codes, slice_get}
-use Rattle.std.specs.List.{AllPairs, filter, flat_map, range_with_len}
-use Rattle.std.specs.Option.{option_map_or}
-use Rattle.byteorder.specs.Endian.{big_bytes}
-use Rattle.exact_text.specs.Spellings.{record_text}
+-- How a history stands in a result. (This project's own.)
+use Rattle.std.specs.Prelude.{All, ℕ, Bool, ◌<◌, ◌^◌, List, [], ◌++◌, length, map, codes, Option, Some, None}
+use Rattle.std.specs.List.{flat_map}
+use Rattle.io_caps.specs.Device.{IsDevice}
 use Rattle.io_caps.specs.declared.device.DeviceParts.{DeviceParts}
-use Rattle.capture_file.specs.declared.history.ClaimItem.{ClaimItem}
-use Rattle.capture_file.specs.declared.history.JournalCall.{JournalCall}
-use Rattle.capture_file.specs.declared.history.ReplyItem.{ReplyItem}
-use Rattle.capture_file.specs.declared.history.Said.{Said}
-use Rattle.capture_file.specs.declared.history.Said.TheVariants.{Plain}
-use Rattle.capture_file.specs.declared.history.History.{History}
-use Rattle.capture_file.specs.declared.requests.Reply.{Reply}
-use Rattle.capture_file.specs.declared.requests.Reply.TheVariants.{Activated}
 use Rattle.io_caps.specs.declared.limits.TheConstants.{CLIENTS}
-use Rattle.capture_file.specs.declared.tags.TheConstants.{CLAIM, CALL, REPLY, PLAIN_FORM, ACTIVATED}
-use Rattle.capture_file.specs.Device.{flag_byte}
-use Rattle.capture_file.specs.Records.{request_text, end_text, FitsRequest}
+use Rattle.plain_book.specs.declared.calls.JournalCall.{JournalCall}
+use Rattle.plain_book.specs.declared.history.ClaimItem.{ClaimItem}
+use Rattle.plain_book.specs.declared.history.ReplyItem.{ReplyItem}
+use Rattle.plain_book.specs.declared.history.Said.{Said}
+use Rattle.plain_book.specs.declared.history.Said.TheVariants.{Plain, Http}
+use Rattle.plain_book.specs.declared.history.History.{History}
+use Rattle.plain_book.specs.declared.replies.Reply.{Reply}
+use Rattle.plain_book.specs.declared.requests.Request.{Request}
+use Rattle.plain_book.specs.Calls.{journal_call}
+use Rattle.plain_book.specs.History.{stamp, claim_item, reply_item, IsWhole}
+use Rattle.exact_text.specs.Spellings.{record_text}
+use Rattle.exact_text.specs.Forms.{Form, byte, number, many_of, all_left, ◌▸◌, struct, variant, no_form, choose, tagged, in_record}
+use Rattle.capture_file.specs.declared.entries.ResultItem.{ResultItem}
+use Rattle.capture_file.specs.declared.entries.ResultItem.TheVariants.{Claim, Call, Reply as AReply}
+use Rattle.capture_file.specs.Tags.{claim_tag, call_tag, reply_tag, http_form, plain_form}
+use Rattle.capture_file.specs.Device.{flag}
+use Rattle.capture_file.specs.Items.{end_text}
+use Rattle.capture_file.specs.Requests.{request}
+use Rattle.capture_file.specs.Replies.{reply as plain_reply}
+use Rattle.capture_file.specs.Records.{if_claim, if_call, if_reply, records_of}
+
+-- ---- claims
+
+-- a claim by its fields
+abbrev pub claim_made : ℕ × (List Bool × List ℕ) → ClaimItem
+claim_made (k, (found, packet)) = claim_item k found packet
+
+-- the claim's number, a flag for each input, and its packet
+unfoldable pub claim : ℕ → Form ClaimItem
+claim inputs = struct (number 8 ▸ many_of inputs flag ▸ all_left) (λ c. (c.k, (c.found, c.packet))) claim_made
+
+-- ---- calls
+
+-- a call by its fields
+abbrev pub call_made : ℕ × (ℕ × (ℕ × (ℕ × Request))) → JournalCall
+call_made (at, (client, (id, (tick, request)))) = journal_call at client id tick request
+
+-- claims at acceptance, client, id, tick, request
+unfoldable pub call : Form JournalCall
+call = struct (number 8 ▸ byte ▸ number 8 ▸ number 8 ▸ request) (λ c. (c.at, (c.client, (c.id, (c.tick, c.request))))) call_made
+
+-- ---- replies
+
+-- the form of what was said
+abbrev pub form_of : Said → ℕ
+form_of (Plain r) = plain_form
+form_of (Http bytes) = http_form
+
+-- a plain reply
+abbrev pub if_plain : Said → Option Reply
+if_plain (Plain r) = Some r
+if_plain (Http bytes) = None
+
+-- the bytes of an HTTP response
+abbrev pub if_http : Said → Option (List ℕ)
+if_http (Http bytes) = Some bytes
+if_http (Plain r) = None
+
+-- the form, and what was said: a plain reply on a device with so many channels of each output, or the bytes of an HTTP response
+unfoldable pub said : List ℕ → Form Said
+said widths = tagged form_of (λ form.
+    choose form plain_form (variant (plain_reply widths) (λ r. Plain r) if_plain) (
+    choose form http_form (variant all_left (λ bytes. Http bytes) if_http) no_form))
+
+-- a reply by its fields
+abbrev pub reply_made : ℕ × (ℕ × (ℕ × Said)) → ReplyItem
+reply_made (client, (calls, (claims, s))) = reply_item client (stamp calls claims) s
+
+-- client, calls, claims, what was said
+unfoldable pub reply : List ℕ → Form ReplyItem
+reply widths = struct (byte ▸ number 8 ▸ number 8 ▸ said widths) (λ r. (r.client, (r.stamp.calls, (r.stamp.claims, r.said)))) reply_made
 
 -- ---- records
 
--- claim number, a flag for each input, packet
-abbrev pub claim_body : ClaimItem → List ℕ
-claim_body c = big_bytes 8 c.k ++ (map flag_byte c.found ++ c.packet)
+-- the tag of a record
+abbrev pub result_tag : ResultItem → ℕ
+result_tag (Claim c) = claim_tag
+result_tag (Call c) = call_tag
+result_tag (AReply r) = reply_tag
 
--- the record of a claim
-unfoldable pub claim_text : ClaimItem → List ℕ
-claim_text c = record_text CLAIM (claim_body c)
+-- how many channels each output of a device has
+abbrev pub widths_of : DeviceParts → List ℕ
+widths_of d = map (λ o. length o.labels) d.outputs
 
--- claims at acceptance, client, id, tick, request
-abbrev pub call_body : JournalCall → List ℕ
-call_body c = big_bytes 8 c.at ++ (c.client ∷ (big_bytes 8 c.id ++ (big_bytes 8 c.tick ++ request_text c.request)))
+-- the body of a record of a result of this device: a claim, a call, or a reply
+unfoldable pub result_body : DeviceParts → ℕ → Form ResultItem
+result_body d tag =
+    choose tag claim_tag (variant (claim (length d.inputs)) (λ c. Claim c) if_claim) (
+    choose tag call_tag (variant call (λ c. Call c) if_call) (
+    choose tag reply_tag (variant (reply (widths_of d)) (λ r. AReply r) if_reply) no_form))
 
--- the record of an accepted call
-unfoldable pub call_text : JournalCall → List ℕ
-call_text c = record_text CALL (call_body c)
+-- a record of a result of this device
+abbrev pub result_item : DeviceParts → Form ResultItem
+result_item d = in_record result_tag (result_body d)
 
--- an accepted activation: its code, its id, its tick
-abbrev pub plain_reply_text : Reply → List ℕ
-plain_reply_text (Activated id tick) = ACTIVATED ∷ (big_bytes 8 id ++ big_bytes 8 tick)
-
--- the form, and the answer
-abbrev pub said_text : Said → List ℕ
-said_text (Plain reply) = PLAIN_FORM ∷ plain_reply_text reply
-
--- client, calls, claims, what was said
-abbrev pub reply_body : ReplyItem → List ℕ
-reply_body r = r.client ∷ (big_bytes 8 r.stamp.calls ++ (big_bytes 8 r.stamp.claims ++ said_text r.said))
-
--- the record of a reply
-unfoldable pub reply_text : ReplyItem → List ℕ
-reply_text r = record_text REPLY (reply_body r)
-
--- ---- the whole
-
--- the calls that were accepted at a number of claims
-abbrev pub calls_at : List JournalCall → ℕ → List JournalCall
-calls_at journal claims = filter (λ c. c.at == claims) journal
-
--- the replies that were given at a number of claims
-abbrev pub replies_at : List ReplyItem → ℕ → List ReplyItem
-replies_at replies claims = filter (λ r. r.stamp.claims == claims) replies
-
--- the claim of a number, where there is one
-abbrev pub claims_at : List ClaimItem → ℕ → List ClaimItem
-claims_at all number = option_map_or (λ c. c ∷ []) (slice_get all number) []
-
--- the calls and the replies at a number of claims, and the claim of that number
-unfoldable pub records_at : History → ℕ → List ℕ
-records_at h claims = flat_map call_text (calls_at h.journal claims) ++ (flat_map reply_text (replies_at h.replies claims) ++ flat_map claim_text (claims_at h.claims claims))
+-- the bytes of a record, which are the same on each device
+abbrev pub bytes_of : ResultItem → List ℕ
+bytes_of (Claim c) = record_text claim_tag ((claim 0).text c)
+bytes_of (Call c) = record_text call_tag (call.text c)
+bytes_of (AReply r) = record_text reply_tag ((reply []).text r)
 
 -- the first bytes of a result
 abbrev pub result_magic : List ℕ
 result_magic = codes "CHMRES1\n"
 
--- the magic, what stands at each number of claims from 0 to the last, and the last record
-unfoldable pub result_text : History → List ℕ
-result_text h = result_magic ++ (flat_map (records_at h) (range_with_len 0 (length h.claims + 1)) ++ end_text)
+-- the text of a history: the magic, its records in order, and the last record
+unfoldable pub result_text : DeviceParts → History → List ℕ
+result_text d h = result_magic ++ (flat_map (result_item d).text (records_of h) ++ end_text)
 
 -- ---- what can be written
 
--- a record can hold the claim
-abbrev pub IsShortClaim : ClaimItem → Type 0
-IsShortClaim c = length c.found + length c.packet + 8 < 2 ^ 32
+-- a record of a result can hold this claim of the device
+pub record FitsClaim (d : DeviceParts) (c : ClaimItem) : Type 0 where
+  pub fits : (claim (length d.inputs)).Fits c
+  pub short : length ((claim (length d.inputs)).text c) < 256 ^ 4
 
--- a claim of this device has a flag for each input
-abbrev pub FitsClaim : DeviceParts → ClaimItem → Type 0
-FitsClaim d c = (length c.found ≡ length d.inputs) × IsShortClaim c
+-- a record can hold this call, and its client's number is one
+pub record FitsCall (c : JournalCall) : Type 0 where
+  pub fits : call.Fits c
+  pub client : c.client < CLIENTS
 
--- the client's number is one, and the request fits its fields
-abbrev pub FitsCall : JournalCall → Type 0
-FitsCall c = (c.client < CLIENTS) × FitsRequest c.request
+-- a record can hold this reply of the device, and its client's number is one
+pub record FitsReply (d : DeviceParts) (r : ReplyItem) : Type 0 where
+  pub fits : (reply (widths_of d)).Fits r
+  pub short : length ((reply (widths_of d)).text r) < 256 ^ 4
+  pub client : r.client < CLIENTS
 
--- the client's number is one
-abbrev pub FitsReply : ReplyItem → Type 0
-FitsReply r = r.client < CLIENTS
-
--- the order of replies in a result: by claims, then by calls, then by client
-abbrev pub IsNoLater : ReplyItem → ReplyItem → Type 0
-IsNoLater a b =
-    (a.stamp.claims < b.stamp.claims)
-    ⊎ ((a.stamp.claims ≡ b.stamp.claims) × ((a.stamp.calls < b.stamp.calls) ⊎ ((a.stamp.calls ≡ b.stamp.calls) × (a.client ≤ b.client))))
-
--- A whole history: its claims are numbered from 0, its calls and replies stand in the order of a result, and none is past
--- the last claim.
-pub record IsWhole (h : History) : Type 0 where
-  pub numbered : map (λ c. c.k) h.claims ≡ range_with_len 0 (length h.claims)
-  pub calls : AllPairs (λ a b. a.at ≤ b.at) h.journal
-  pub calls_within : All (λ c. c.at ≤ length h.claims) h.journal
-  pub replies : AllPairs IsNoLater h.replies
-  pub replies_within : All (λ r. r.stamp.claims ≤ length h.claims) h.replies
-
--- Nothing of a history is left out of its result: its numbers of claims have all its calls, all its replies and all its claims,
--- each once and in order.
-pub record ShowsAll (h : History) : Type 0 where
-  pub calls : flat_map (calls_at h.journal) (range_with_len 0 (length h.claims + 1)) ≡ h.journal
-  pub replies : flat_map (replies_at h.replies) (range_with_len 0 (length h.claims + 1)) ≡ h.replies
-  pub claims : flat_map (claims_at h.claims) (range_with_len 0 (length h.claims + 1)) ≡ h.claims
-
--- a whole history of this device, each record of which fits the fields of a result
+-- a whole history of this device, which is within its limits; each part is what some record of a result of the device is read as
 pub record FitsHistory (d : DeviceParts) (h : History) : Type 0 where
+  pub device : IsDevice d
   pub whole : IsWhole h
   pub claims : All (FitsClaim d) h.claims
   pub journal : All FitsCall h.journal
-  pub replies : All FitsReply h.replies
+  pub replies : All (FitsReply d) h.replies

@@ -1,37 +1,32 @@
 //! A capture, and how its bytes are read.
 
-ghost use Rattle.std.specs.Prelude.{◌≡◌, ◌≤◌, ◌++◌, ℕ, List, length, drop, IfOk};
-ghost use Rattle.exact_text.specs.Readings.{Gives, whole_of};
-ghost use Rattle.capture_file.specs.Capture.{CaptureParts, capture_text};
-ghost use Rattle.capture_file.specs.CaptureReading.{base_of, raw_at};
-ghost use Rattle.capture_file.specs.Fault.{IsFault};
-ghost use Rattle.capture_file.specs.Plain.{IsPlain};
+ghost use Rattle.std.specs.Prelude.{◌≡◌, ℕ, IfOk, IfErr};
+ghost use Rattle.capture_file.specs.declared.fault.CaptureKind.{CaptureKind};
+ghost use Rattle.capture_file.specs.Capture.{CaptureParts, IsAnswer, IsCaptureAt};
+ghost use Rattle.capture_file.specs.Fault.{FaultIs, IsRefusal};
+ghost use Rattle.capture_file.specs.Walk.{IfFault};
 
-use crate::assembly::assemble;
-use crate::device::setup;
-use crate::fault::NOT_YET;
-use crate::reading::items;
-use crate::tags::{CAPTURE_MAGIC, DEVICE};
-use crate::{CaptureFault, Items};
-use exact_text::{Misread, literal, nothing_behind, record};
-use io_caps::{DeviceParts, NoMemory, Or, TryCopy};
-use map_entry::{Rows, Setup};
+use crate::before::Before;
+use crate::opening::read_opening;
+use crate::walk::{Placed, walk};
+use crate::{CaptureFault, CaptureKind, Items};
+use io_caps::{NoMemory, Or, TryCopy};
+use map_entry::Setup;
 use std::alloc::Global;
 use std::marker::Model;
 
-/// What came and what was asked of it: a device with its base rows, and the records in order. The claims are those of
-/// whole ticks, and the records name inputs and clients that are there.
+/// What came and what was asked of it: a device with its base rows, and the records in order. The
+/// claims are those of whole ticks, and the records name inputs and clients that are there.
 #[derive(Debug, Drop)]
-pub struct Capture {
+pub struct Capture<'a> {
     pub setup: Setup,
-    pub items: Items,
+    pub items: Items<'a>,
     /// The ticks of all claims together.
     pub ticks: u64,
 }
 
-impl Model for Capture {
-    ghost use Rattle.capture_file.specs.Capture.{CaptureParts, IsCapture};
-    ghost use Rattle.capture_file.specs.CaptureReading.{capture_of};
+impl<'a> Model for Capture<'a> {
+    ghost use Rattle.capture_file.specs.Capture.{CaptureParts, IsCapture, capture_of};
 
     ghost Value = { CaptureParts };
 
@@ -40,8 +35,8 @@ impl Model for Capture {
     ghost invariant = { λ c. IsCapture (capture_of c.setup c.items c.ticks) };
 }
 
-impl TryCopy for Capture {
-    fn copy(&self) -> Result<Capture, NoMemory> {
+impl<'a> TryCopy for Capture<'a> {
+    fn copy(&self) -> Result<Capture<'a>, NoMemory> {
         Ok(Capture {
             setup: self.setup.copy()?,
             items: self.items.copy()?,
@@ -50,52 +45,50 @@ impl TryCopy for Capture {
     }
 }
 
-/// The device of the first record, which need not be in order.
-#[tactic(auto, unfolding(crate::specs::CaptureReading::base_of))]
-fn base(alloc: Global, tag: u8, body: &[u8]) -> Result<(DeviceParts, Rows), Misread>
-    ensures { Gives (λ x. x) result (base_of tag body.now) }
+/// The fault that the walk found.
+fn placed(found: Placed<CaptureKind>) -> CaptureFault
+    ensures at { result.at ≡ found.at }
+    ensures kind { result.kind ≡ found.fault }
 {
-    if tag != DEVICE {
-        return Err(Misread::NoReading);
+    CaptureFault {
+        at: found.at as u64,
+        kind: found.fault,
     }
-    let (base, rest) = setup(alloc, body)?;
-    nothing_behind(rest)?;
-    Ok(base)
 }
 
-/// What a capture is made of, which need not be in order, and the bytes behind its last record.
-#[tactic(auto, unfolding(crate::specs::CaptureReading::raw_at))]
-fn raw(alloc: Global, bytes: &[u8]) -> Result<(((DeviceParts, Rows), Items), &[u8]), Misread>
-    ensures { Gives (λ x. (x.0, x.1.now)) result (raw_at bytes.now) }
+/// The capture at the front of bytes, or their first fault.
+fn read_first<'a>(alloc: Global, bytes: &'a [u8]) -> Result<(Capture<'a>, usize), Or<CaptureFault>>
+    ensures found { IfOk result (λ x. IsCaptureAt bytes.now x.0 x.1) }
+    ensures fault { IfErr result (λ e. IfFault e (λ f. FaultIs bytes.now f.at f.kind)) }
 {
-    let rest = literal(bytes, CAPTURE_MAGIC)?;
-    let (tag, body, rest) = record(rest)?;
-    let base = base(alloc, tag, body)?;
-    let (items, rest) = items(alloc, rest.len(), rest)?;
-    Ok(((base, items), rest))
-}
-
-/// The capture of the plain form at the front of bytes, and the place behind its last record. Its device record is a
-/// plain one, with inputs of block size 1 and reordering, and outputs to which anything may be routed; packets come to
-/// inputs that are there and hold any bytes; requests are activations at once, of clients below 16, that name an output
-/// and only what is there; the claims are those of whole ticks, 256 at most; there are at most 512 map entries, one for
-/// each output and one for each output that an activation names. Other bytes are refused by the fault `NotYet`; want of
-/// memory comes for itself alone. (This project's own.)
-pub fn read_capture(alloc: Global, bytes: &[u8]) -> Result<(Capture, usize), Or<CaptureFault>>
-    // What is read is spelled so.
-    ensures found { IfOk result (λ x. IsPlain x.0 × (x.1 ≤ length bytes.now) × (bytes.now ≡ capture_text x.0 ++ drop x.1 bytes.now)) }
-    // Nothing else may be read there: no two captures have the same bytes.
-    ensures only { IfOk result (λ x. (c : CaptureParts) (rest : List ℕ) → IsPlain c → bytes.now ≡ capture_text c ++ rest → (c ≡ x.0) × (rest ≡ drop x.1 bytes.now)) }
-    // What is spelled so is read, unless memory runs out.
-    ensures none { IsFault result → (c : CaptureParts) (rest : List ℕ) → IsPlain c → bytes.now ≡ capture_text c ++ rest → ⊥ }
-{
-    let (((parts, rows), items), rest) = match raw(alloc, bytes) {
-        Ok(found) => found,
-        Err(Misread::NoReading) => return Err(Or::Fault(NOT_YET)),
-        Err(Misread::NoMemory) => return Err(Or::NoMemory),
+    let (setup, behind) = match read_opening(alloc, bytes) {
+        Ok(opened) => opened,
+        Err(error) => return Err(error),
     };
-    match assemble(alloc, parts, rows, items) {
-        Some(capture) => Ok((capture, bytes.len() - rest.len())),
-        None => Err(Or::Fault(NOT_YET)),
+    let items = Items::new(alloc);
+    let start = Before { setup, items };
+    match walk(alloc, start, CaptureKind::Cut, bytes.len(), behind) {
+        Ok(whole) => Ok(whole),
+        Err(Or::Fault(found)) => Err(Or::Fault(placed(found))),
+        Err(Or::NoMemory) => Err(Or::NoMemory),
     }
+}
+
+/// The capture at the front of bytes, which lend it their packets, and the place behind its last
+/// record; or the first fault, with the place of its record. Each comes exactly where it stands
+/// there, unless memory runs out. (This project's own.)
+pub fn read_capture<'a>(
+    alloc: Global,
+    bytes: &'a [u8],
+) -> Result<(Capture<'a>, usize), Or<CaptureFault>>
+    // The bytes up to the place are a text of the capture.
+    ensures found { IfOk result (λ x. IsCaptureAt bytes.now x.0 x.1) }
+    // Where they begin with a capture's text, that one is read.
+    ensures only { (c : CaptureParts) (at : ℕ) → IsCaptureAt bytes.now c at → IsAnswer result c at }
+    // The fault that is answered is the first one.
+    ensures fault { IfErr result (λ e. IfFault e (λ f. FaultIs bytes.now f.at f.kind)) }
+    // Where they have a first fault, that one is answered.
+    ensures exact { (at : ℕ) (kind : CaptureKind) → FaultIs bytes.now at kind → IsRefusal result at kind }
+{
+    read_first(alloc, bytes)
 }

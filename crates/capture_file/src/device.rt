@@ -2,11 +2,10 @@
 
 ghost use Rattle.std.specs.Prelude.{◌≡◌, Some, IfOk};
 ghost use Rattle.exact_text.specs.Readings.{Gives};
-ghost use Rattle.capture_file.specs.Device.{numbered};
-ghost use Rattle.capture_file.specs.DeviceReading.{width_at, flag_at, input_at, cell_at, member_at, routable_at, target_at, outputs_of, rows_of, setup_at};
+ghost use Rattle.capture_file.specs.Device.{width, flag, channels, input, numbered, member, routable, output, target, outputs_of, rows_of, ports, device};
 
 use crate::form::CaptureForm;
-use crate::tags::{ALL_ROUTABLE, BITS_16, BITS_24, UNROUTED_INPUT, UNROUTED_MEMBER};
+use crate::tags::{ALL_ROUTABLE, BITS_16, BITS_24, UNROUTED_MEMBER};
 use exact_text::{Misread, Reads, byte, many, number16, number32, number64, slice};
 use io_caps::{
     Choices, DeviceParts, Input, Inputs, Labels, Output, Outputs, Parent, Rate, Routable, Text,
@@ -17,13 +16,14 @@ use std::alloc::Global;
 
 /// An output with its base row.
 #[derive(Drop)]
-struct Target {
+pub(crate) struct Target {
     output: Output,
     row: Row,
 }
 
-fn width(bytes: &[u8]) -> Result<(Width, &[u8]), Misread>
-    ensures { Gives (λ x. (x.0, x.1.now)) result (width_at bytes.now) }
+#[tactic(auto, unfolding(crate::specs::Device::width))]
+fn read_width(bytes: &[u8]) -> Result<(Width, &[u8]), Misread>
+    ensures { Gives (λ x. (x.0, x.1.now)) result (width.read bytes.now) }
 {
     let (bits, rest) = byte(bytes)?;
     match bits {
@@ -33,8 +33,9 @@ fn width(bytes: &[u8]) -> Result<(Width, &[u8]), Misread>
     }
 }
 
-fn flag(bytes: &[u8]) -> Result<(bool, &[u8]), Misread>
-    ensures { Gives (λ x. (x.0, x.1.now)) result (flag_at bytes.now) }
+#[tactic(auto, unfolding(crate::specs::Device::flag))]
+pub(crate) fn read_flag(bytes: &[u8]) -> Result<(bool, &[u8]), Misread>
+    ensures { Gives (λ x. (x.0, x.1.now)) result (flag.read bytes.now) }
 {
     let (flag, rest) = byte(bytes)?;
     match flag {
@@ -51,7 +52,7 @@ fn copied(alloc: Global, bytes: &[u8]) -> Result<Text, Misread>
 }
 
 /// The labels of so many channels: "1", "2", ..
-fn numbered(alloc: Global, channels: u8) -> Result<Labels, Misread>
+fn labels_of(alloc: Global, channels: u8) -> Result<Labels, Misread>
     ensures { Gives (λ x. x) result (Some (numbered channels)) }
 {
     let mut labels = Vec::new(alloc);
@@ -64,22 +65,22 @@ fn numbered(alloc: Global, channels: u8) -> Result<Labels, Misread>
 }
 
 impl Reads<Input> for CaptureForm {
-    ghost reading = { input_at };
+    ghost reading = { input.read };
 
-    #[tactic(auto, unfolding(crate::specs::DeviceReading::input_at))]
+    #[tactic(auto, unfolding(crate::specs::Device::input, crate::specs::Device::channels))]
     fn read(alloc: Global, bytes: &[u8]) -> Result<(Input, &[u8]), Misread> {
         let (len, rest) = byte(bytes)?;
         let (id, rest) = slice(rest, len as usize)?;
         let (channels, rest) = byte(rest)?;
-        let (width, rest) = width(rest)?;
+        let (width, rest) = read_width(rest)?;
         let (payload_type, rest) = byte(rest)?;
         let (block_size, rest) = byte(rest)?;
-        let (reordering, rest) = flag(rest)?;
+        let (reordering, rest) = read_flag(rest)?;
         let input = Input {
             id: copied(alloc, id)?,
             name: copied(alloc, id)?,
             description: Text::new(alloc),
-            labels: numbered(alloc, channels)?,
+            labels: labels_of(alloc, channels)?,
             width,
             payload_type,
             block_size,
@@ -90,28 +91,10 @@ impl Reads<Input> for CaptureForm {
     }
 }
 
-impl Reads<Cell> for CaptureForm {
-    ghost reading = { cell_at };
-
-    #[tactic(auto, unfolding(crate::specs::DeviceReading::cell_at))]
-    fn read(_alloc: Global, bytes: &[u8]) -> Result<(Cell, &[u8]), Misread> {
-        let (input, rest) = byte(bytes)?;
-        let (channel, rest) = byte(rest)?;
-        if input != UNROUTED_INPUT {
-            return Ok((Cell::From { input, channel }, rest));
-        }
-        if channel == 0 {
-            Ok((Cell::Unrouted, rest))
-        } else {
-            Err(Misread::NoReading)
-        }
-    }
-}
-
 impl Reads<Option<u8>> for CaptureForm {
-    ghost reading = { member_at };
+    ghost reading = { member.read };
 
-    #[tactic(auto, unfolding(crate::specs::DeviceReading::member_at))]
+    #[tactic(auto, unfolding(crate::specs::Device::member))]
     fn read(_alloc: Global, bytes: &[u8]) -> Result<(Option<u8>, &[u8]), Misread> {
         let (member, rest) = byte(bytes)?;
         if member == UNROUTED_MEMBER {
@@ -122,9 +105,9 @@ impl Reads<Option<u8>> for CaptureForm {
     }
 }
 
-#[tactic(auto, unfolding(crate::specs::DeviceReading::routable_at))]
-fn routable(alloc: Global, bytes: &[u8]) -> Result<(Routable, &[u8]), Misread>
-    ensures { Gives (λ x. (x.0, x.1.now)) result (routable_at bytes.now) }
+#[tactic(auto, unfolding(crate::specs::Device::routable))]
+fn read_routable(alloc: Global, bytes: &[u8]) -> Result<(Routable, &[u8]), Misread>
+    ensures { Gives (λ x. (x.0, x.1.now)) result (routable.read bytes.now) }
 {
     let (count, rest) = byte(bytes)?;
     if count == ALL_ROUTABLE {
@@ -134,30 +117,40 @@ fn routable(alloc: Global, bytes: &[u8]) -> Result<(Routable, &[u8]), Misread>
     Ok((Routable::Only(Choices::from_vec(members)), rest))
 }
 
-impl Reads<Target> for CaptureForm {
-    ghost reading = { target_at };
+impl Reads<Output> for CaptureForm {
+    ghost reading = { output.read };
 
-    #[tactic(auto, unfolding(crate::specs::DeviceReading::target_at))]
-    fn read(alloc: Global, bytes: &[u8]) -> Result<(Target, &[u8]), Misread> {
+    #[tactic(auto, unfolding(crate::specs::Device::output, crate::specs::Device::channels))]
+    fn read(alloc: Global, bytes: &[u8]) -> Result<(Output, &[u8]), Misread> {
         let (len, rest) = byte(bytes)?;
         let (id, rest) = slice(rest, len as usize)?;
         let (channels, rest) = byte(rest)?;
-        let (width, rest) = width(rest)?;
+        let (width, rest) = read_width(rest)?;
         let (payload_type, rest) = byte(rest)?;
         let (ssrc, rest) = number32(rest)?;
-        let (routable, rest) = routable(alloc, rest)?;
-        let (row, rest) = many::<CaptureForm, Cell>(alloc, channels as usize, rest)?;
+        let (routable, rest) = read_routable(alloc, rest)?;
         let output = Output {
             id: copied(alloc, id)?,
             name: copied(alloc, id)?,
             description: Text::new(alloc),
-            labels: numbered(alloc, channels)?,
+            labels: labels_of(alloc, channels)?,
             width,
             payload_type,
             ssrc,
             source_id: None,
             routable,
         };
+        Ok((output, rest))
+    }
+}
+
+impl Reads<Target> for CaptureForm {
+    ghost reading = { target.read };
+
+    #[tactic(auto, unfolding(crate::specs::Device::target))]
+    fn read(alloc: Global, bytes: &[u8]) -> Result<(Target, &[u8]), Misread> {
+        let (output, rest): (Output, &[u8]) = CaptureForm::read(alloc, bytes)?;
+        let (row, rest) = many::<CaptureForm, Cell>(alloc, output.channels(), rest)?;
         let row = Row::from_vec(row);
         Ok((Target { output, row }, rest))
     }
@@ -177,9 +170,12 @@ fn split(alloc: Global, targets: Vec<Target>) -> Result<(Outputs, Rows), Misread
 }
 
 /// The parts of a device and its base rows, which need not be in order, and the bytes after them.
-#[tactic(auto, unfolding(crate::specs::DeviceReading::setup_at))]
-pub(crate) fn setup(alloc: Global, bytes: &[u8]) -> Result<((DeviceParts, Rows), &[u8]), Misread>
-    ensures { Gives (λ x. (x.0, x.1.now)) result (setup_at bytes.now) }
+#[tactic(auto, unfolding(crate::specs::Device::device, crate::specs::Device::ports))]
+pub(crate) fn read_device(
+    alloc: Global,
+    bytes: &[u8],
+) -> Result<((DeviceParts, Rows), &[u8]), Misread>
+    ensures { Gives (λ x. (x.0, x.1.now)) result (device.read bytes.now) }
 {
     let (hz, rest) = number32(bytes)?;
     let (frames, rest) = number16(rest)?;

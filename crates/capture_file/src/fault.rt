@@ -1,24 +1,44 @@
 //! Why bytes are no capture.
 
 use io_caps::{NoMemory, TryCopy};
+use thiserror::Error;
 
-/// What is wrong with bytes that are no capture.
-#[derive(Clone, Copy, Debug, PartialEq, Eq)]
+/// What is wrong with bytes that are no capture. For one record the order is `Cut`, `Tag`, `Order`,
+/// `Device` or `Body`, `Work`.
+#[derive(Clone, Copy, Debug, PartialEq, Eq, Error)]
 pub enum CaptureKind {
-    /// They don't begin with a capture of a form that is read.
-    NotYet,
+    /// They don't begin with the magic.
+    #[error("magic")]
+    Magic,
+    /// They end before a record or within it, and no last record came.
+    #[error("cut")]
+    Cut,
+    /// The tag is none of a capture.
+    #[error("tag")]
+    Tag,
+    /// The first record is no device, or a later one is.
+    #[error("order")]
+    Order,
+    /// The device's body has no reading, or the device or its base rows are out of order.
+    #[error("device")]
+    Device,
+    /// Another record's body has no reading, or names an input or a client that isn't there.
+    #[error("body")]
+    Body,
+    /// At the last record: the claims are not those of whole ticks, or of too many.
+    #[error("work")]
+    Work,
+    /// There are bytes behind the last record. [`read_capture`](crate::read_capture) never says so.
+    #[error("trailing")]
+    Trailing,
 }
 
-/// Why bytes are no capture.
+/// Why bytes are no capture, by the place of the tag of the first record at fault.
 #[derive(Clone, Copy, Debug, PartialEq, Eq)]
 pub struct CaptureFault {
+    pub at: u64,
     pub kind: CaptureKind,
 }
-
-/// The one fault.
-pub(crate) const NOT_YET: CaptureFault = CaptureFault {
-    kind: CaptureKind::NotYet,
-};
 
 impl TryCopy for CaptureKind {
     fn copy(&self) -> Result<CaptureKind, NoMemory> {

@@ -1,26 +1,31 @@
 //! Captures and results: what they hold, and how they are read and written as bytes.
 #![tactic(auto)]
 
-mod assembly;
+mod before;
 mod capture;
 mod device;
+mod entries;
 mod fault;
 mod form;
-mod history;
-mod plain;
-mod reading;
-mod records;
+mod items;
+mod judging;
+mod opening;
+mod replies;
 mod requests;
 mod result;
+mod runs;
 mod tags;
 #[cfg(test)]
 mod tests;
+mod walk;
+mod writing;
 
 pub use capture::{Capture, read_capture};
+pub use entries::ResultItem;
 pub use fault::{CaptureFault, CaptureKind};
-pub use history::{
-    ClaimItem, ClaimItems, History, Journal, JournalCall, ReplyItem, ReplyItems, Said,
+pub use items::{Item, Items, RecordBytes};
+pub use plain_book::{
+    Activation, ActiveView, ClaimItem, ClaimItems, History, Journal, JournalCall, PendingItem,
+    PendingItems, Refusal, Reply, ReplyItem, ReplyItems, Request, Requests, Said, Stamp, When,
 };
-pub use records::{Item, Items};
-pub use requests::{Reply, Request, Stamp, When};
 pub use result::write_result;

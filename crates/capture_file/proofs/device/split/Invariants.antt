@@ -1,5 +1,5 @@
 use Rattle.std.proofs.Common.{◌≡◌}
-use Rattle.capture_file.specs.DeviceReading.{outputs_of, rows_of}
+use Rattle.capture_file.specs.Device.{outputs_of, rows_of}
 use Rattle.capture_file.proofs.device.split.Given as goal
 
 abbrev pub invariant-loop-target : goal.invariant-loop-target

@@ -1,0 +1,63 @@
+-- Parts of a history, as they are written. (This project's own.)
+use Rattle.std.specs.Prelude.{ℕ, ◌+◌, ◌<◌, ◌^◌, List, [], ◌++◌, length}
+use Rattle.std.specs.List.{AllByRecursion, flat_map}
+use Rattle.plain_book.specs.declared.calls.JournalCall.{JournalCall}
+use Rattle.plain_book.specs.declared.history.ClaimItem.{ClaimItem}
+use Rattle.plain_book.specs.declared.history.ReplyItem.{ReplyItem}
+use Rattle.plain_book.specs.declared.history.Said.{Said}
+use Rattle.plain_book.specs.declared.history.Said.TheVariants.{Plain, Http}
+use Rattle.plain_book.specs.History.{history_of}
+use Rattle.capture_file.specs.declared.entries.ResultItem.TheVariants.{Claim, Call, Reply as AReply}
+use Rattle.capture_file.specs.Replies.{HoldsReply}
+use Rattle.capture_file.specs.Records.{calls_at, replies_at, claim_at, records_from}
+use Rattle.capture_file.specs.Result.{reply, bytes_of, FitsCall}
+use Rattle.capture_file.specs.Runs.{IsRisingFrom, IsFromOn}
+
+-- the bytes of a call's record
+abbrev pub call_bytes : JournalCall → List ℕ
+call_bytes c = bytes_of (Call c)
+
+-- the bytes of a reply's record
+abbrev pub reply_bytes : ReplyItem → List ℕ
+reply_bytes r = bytes_of (AReply r)
+
+-- the bytes of a claim's record
+abbrev pub claim_bytes : ClaimItem → List ℕ
+claim_bytes c = bytes_of (Claim c)
+
+-- the bytes of what stands at a number of claims: the calls, the replies, and the claim
+abbrev pub bytes_at : ℕ → List JournalCall → List ReplyItem → List ClaimItem → List ℕ
+bytes_at number calls replies claims =
+    flat_map call_bytes (calls_at number calls) ++ (flat_map reply_bytes (replies_at number replies) ++ flat_map claim_bytes (claim_at number claims))
+
+-- the bytes of what stands at so many numbers of claims, from one on
+abbrev pub range_bytes : ℕ → ℕ → List JournalCall → List ReplyItem → List ClaimItem → List ℕ
+range_bytes from count calls replies claims = flat_map bytes_of (records_from (history_of claims calls replies) from count)
+
+-- what was said fits its fields
+abbrev pub HoldsSaid : Said → Type 0
+HoldsSaid (Plain reply) = HoldsReply reply
+HoldsSaid (Http bytes) = Unit {0}
+
+-- a record can hold the reply
+abbrev pub HoldsItem : ReplyItem → Type 0
+HoldsItem r = HoldsSaid r.said × (length ((reply []).text r) < 2 ^ 32)
+
+-- a record can hold the claim
+abbrev pub IsShortClaim : ClaimItem → Type 0
+IsShortClaim c = length c.found + length c.packet + 8 < 2 ^ 32
+
+-- calls, replies and claims from a number of claims on, in order, each of which a record can hold
+pub record IsLeft (number : ℕ) (calls : List JournalCall) (replies : List ReplyItem) (claims : List ClaimItem) : Type 0 where
+  pub calls_rise : IsRisingFrom (λ c. c.at) number calls
+  pub replies_rise : IsRisingFrom (λ r. r.stamp.claims) number replies
+  pub claims_rise : IsRisingFrom (λ c. c.k) number claims
+  pub calls_fit : AllByRecursion FitsCall calls
+  pub replies_fit : AllByRecursion HoldsItem replies
+  pub claims_fit : AllByRecursion IsShortClaim claims
+
+-- what is held back: of each of the three lists the items from a number of claims on
+pub record IsHeld (number : ℕ) (calls : List JournalCall) (replies : List ReplyItem) (claims : List ClaimItem) (calls_held : List JournalCall) (replies_held : List ReplyItem) (claims_held : List ClaimItem) : Type 0 where
+  pub later_calls : IsFromOn (λ c. c.at) number calls calls_held
+  pub later_replies : IsFromOn (λ r. r.stamp.claims) number replies replies_held
+  pub later_claims : IsFromOn (λ c. c.k) number claims claims_held
