@@ -19,7 +19,7 @@ use Rattle.block_builder.specs.declared.arrival.Arrival.TheVariants.{Packet, End
 use Rattle.block_builder.specs.declared.intake.Intake.{Intake}
 use Rattle.block_builder.proofs.BlockLaws.{block_long, block_mark}
 use Rattle.capture_file.specs.Packets.{packet_at, packets_of}
-use Rattle.capture_file.specs.declared.records.Item.{Item}
+use Rattle.capture_file.specs.declared.items.Item.{Item}
 use Rattle.packet_writer.specs.Heard.{HasFrames}
 use Rattle.serial_player.specs.Arrivals.{arrivals_of, blocks_in}
 use Rattle.serial_player.specs.Table.{BlockTable, HasTick, IsTable, input_blocks, place_of_claim, placed, table_of}

@@ -5,7 +5,7 @@ use Rattle.block_builder.specs.Blocks.{block_of}
 use Rattle.block_builder.specs.declared.arrival.Arrival.{Arrival}
 use Rattle.block_builder.specs.declared.arrival.Arrival.TheVariants.{Packet, End}
 use Rattle.capture_file.specs.Packets.{packets_of}
-use Rattle.capture_file.specs.declared.records.Item.{Item}
+use Rattle.capture_file.specs.declared.items.Item.{Item}
 use Rattle.packet_writer.specs.Packet.{Blocks}
 
 -- what came to an input: its packets in the order of their records, whatever they hold, and then the end

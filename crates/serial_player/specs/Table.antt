@@ -3,7 +3,7 @@ use Rattle.std.specs.Prelude.{◌≡◌, ℕ, ◌+◌, ◌/◌, List, [], length
 use Rattle.std.specs.List.{range_with_len}
 use Rattle.io_caps.specs.declared.device.DeviceParts.{DeviceParts}
 use Rattle.map_entry.specs.Setup.{SetupParts}
-use Rattle.capture_file.specs.declared.records.Item.{Item}
+use Rattle.capture_file.specs.declared.items.Item.{Item}
 use Rattle.packet_writer.specs.Heard.{HaveFrames, TickBlocks}
 use Rattle.packet_writer.specs.Packet.{Blocks, tick_of_claim}
 use Rattle.serial_player.specs.Arrivals.{blocks_in}

@@ -16,7 +16,7 @@ use std::alloc::Global;
 pub(crate) type BlockTable = ListOf<Blocks>;
 
 /// The packet of a record, where it came to this input.
-fn packet_at(item: &Item, input: u8) -> Option<&[u8]>
+fn packet_at<'a>(item: &Item<'a>, input: u8) -> Option<&'a [u8]>
     ensures some { IfSome result (λ packet. packet_at input item.now ≡ Some packet.now) }
     ensures none { IfNone result (packet_at input item.now ≡ None) }
 {
@@ -27,7 +27,7 @@ fn packet_at(item: &Item, input: u8) -> Option<&[u8]>
 }
 
 /// The packets of an input, in order of arrival.
-fn packets(alloc: Global, items: &[Item], input: u8) -> Result<Vec<&[u8]>, NoMemory>
+fn packets<'a>(alloc: Global, items: &[Item<'a>], input: u8) -> Result<Vec<&'a [u8]>, NoMemory>
     ensures { IfOk result (λ made. map (λ p. p.now) made.items ≡ packets_of input items.now) }
 {
     let mut made = Vec::new(alloc);
