@@ -1,6 +1,8 @@
 //! Maps audio channels: a capture on standard input, its result on standard output.
 #![tactic(auto)]
 
+mod command;
+mod end;
 #[cfg(test)]
 mod tests;
 mod top;

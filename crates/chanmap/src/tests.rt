@@ -1,16 +1,17 @@
 //! Runs over objects in memory.
 
+mod clients;
+mod faults;
+mod requests;
+
 use crate::top::chanmap;
-use capture_file::{read_capture, write_result};
 use chan_io::{MemSink, MemSource, StdSink};
-use io_caps::TryCopy;
-use serial_player::serial;
 use std::alloc::Global;
 use std::process::Abort;
 use std::test::Fail;
 
-/// The bytes of a capture's magic and its device: one input `a` in L16, the outputs `x` in L16 and `y` in L24, of two
-/// channels each, which are unrouted.
+/// The bytes of a capture's magic and its device: one input `a` in L16, the outputs `x` in L16 and
+/// `y` in L24, of two channels each, which are unrouted.
 const DEVICE: &str = "43484d434150310a 44 00000034
     0000bb80 0002 0000000000000000 01 01 02
     01 61 02 10 60 01 01
@@ -45,9 +46,9 @@ const MID_TICK_RESULT: &str = "43484d524553310a
     43 00000021 0000000000000005 01 8061 0002 00000004 00000002 222200 000000 444400 000000
     45 00000000";
 
-/// Inputs `a` of two channels and `b` of one. The outputs `x` in L16 and `y` in L24 have two channels each: `x` carries
-/// channel 0 of `b` and 1 of `a`, and `y` channel 0 of `a` and nothing. Packets of `a` come at ticks 0 and 1, and one of
-/// `b` at tick 1; then there are two ticks of claims.
+/// Inputs `a` of two channels and `b` of one. The outputs `x` in L16 and `y` in L24 have two channels
+/// each: `x` carries channel 0 of `b` and 1 of `a`, and `y` channel 0 of `a` and nothing. Packets of
+/// `a` come at ticks 0 and 1, and one of `b` at tick 1; then there are two ticks of claims.
 const TWO_INPUTS: &str = "43484d434150310a 44 0000003b
     0000bb80 0002 0000000000000000 01 02 02
     01 61 02 10 60 01 01
@@ -103,8 +104,8 @@ fn capture(alloc: Global, records: &str) -> Result<Vec<u8>, Fail> {
 /// The most bytes of an input.
 const MOST: usize = 1 << 26;
 
-/// How many bytes the source hands over in a read, and which calls fail, counted from 0: a read, a write of the result,
-/// and a write of the line.
+/// How many bytes the source hands over in a read, and which calls fail, counted from 0: a read, a
+/// write of the result, and a write of the line.
 #[derive(Clone, Copy)]
 struct Outside {
     piece: usize,
@@ -212,8 +213,9 @@ fn two_inputs(rt: HostRuntime) -> Result<(), Fail> {
     Ok(())
 }
 
-/// Packets of the input `a`, which has two channels, and what the first packets of `x` in L16 and `y` in L24 hold, which carry both
-/// channels: the bits of `a`, the records, whether a block is found, and the payloads of `x` and `y`.
+/// Packets of the input `a`, which has two channels, and what the first packets of `x` in L16 and `y`
+/// in L24 hold, which carry both channels: the bits of `a`, the records, whether a block is found, and
+/// the payloads of `x` and `y`.
 const PACKETS: [(u8, &str, bool, &str, &str); 15] = [
     // l16_to_l24
     (
@@ -239,7 +241,8 @@ const PACKETS: [(u8, &str, bool, &str, &str); 15] = [
         "8000 8000 0000 0000",
         "800000 8000ff 000000 000001",
     ),
-    // rtp_heads: two CSRCs, an extension, and padding of 3, 7, 0 and 8 bytes; and its first 11, 19 and 27 bytes
+    // rtp_heads: two CSRCs, an extension, and padding of 3, 7, 0 and 8 bytes; and its first 11, 19
+    // and 27 bytes
     (
         16,
         "50 00000024 00 b260 0001 00000000 0000000a 0000000b 0000000c bede0001 00000000 12345678 000003",
@@ -407,19 +410,6 @@ fn timestamp_wraps(rt: HostRuntime) -> Result<(), Fail> {
     Ok(())
 }
 
-/// The copy of a history is written as the history is.
-#[test]
-fn history_copied(rt: HostRuntime) -> Result<(), Fail> {
-    let alloc = rt.alloc();
-    let bytes = capture(alloc, MID_TICK)?;
-    let (capture, _) = read_capture(alloc, &bytes).ok().ok_or("a capture")?;
-    let history = serial(alloc, &capture)?.copy()?;
-    let mut text = Vec::new(alloc);
-    write_result(alloc, &capture.setup.device, &history, &mut text)?;
-    assert_eq!(rt; text.as_slice(), hex(alloc, MID_TICK_RESULT)?.as_slice());
-    Ok(())
-}
-
 /// With ample memory no run is without.
 #[test]
 fn always_no_memory(rt: HostRuntime) -> Result<(), Fail> {
@@ -508,230 +498,13 @@ fn bad_words_and_long_input(rt: HostRuntime) -> Result<(), Fail> {
         let ran = run(alloc, words, capture(alloc, TWO_TICKS)?, NO_FAULT)?;
         expect(&rt, &ran, 2, &[], usage);
     }
+    // One byte more than the most; that the most are read is said by the clauses.
+    let long = vec![in alloc; 0u8; MOST + 1]?;
     let outside = Outside {
         piece: 65536,
         ..NO_FAULT
     };
-    let long = vec![in alloc; 0u8; MOST + 1]?;
     let ran = run(alloc, &["serial"], long, outside)?;
     expect(&rt, &ran, 7, &[], "too long\n");
-    let most = vec![in alloc; 0u8; MOST]?;
-    let ran = run(alloc, &["serial"], most, outside)?;
-    expect(&rt, &ran, 5, &[], "refused: not-yet\n");
-    Ok(())
-}
-
-/// The bytes with those from one place to another replaced.
-fn spliced(
-    alloc: Global,
-    bytes: &[u8],
-    from: usize,
-    to: usize,
-    digits: &str,
-) -> Result<Vec<u8>, Fail> {
-    let mut made = Vec::new(alloc);
-    made.extend_from_slice(bytes.get(..from).ok_or("no such place")?)?;
-    push_hex(&mut made, digits)?;
-    made.extend_from_slice(bytes.get(to..).ok_or("no such place")?)?;
-    Ok(made)
-}
-
-/// Changes of the capture of silence. Its device stands at 8, the claims at 65, and the end at 74.
-const DEVICE_CHANGES: [(usize, usize, &str); 32] = [
-    // the magic
-    (7, 8, "0b"),
-    (0, 79, ""),
-    // another first record, a second device, and an unknown tag
-    (8, 9, "54"),
-    (65, 66, "44"),
-    (65, 66, "51"),
-    // a device record that ends within a base row, and one with a byte behind it
-    (
-        9,
-        65,
-        "00000033 0000bb80 0002 0000000000000000 01 01 02 01 61 02 10 60 01 01
-            01 78 02 10 60 00000001 ff ff00 ff00 01 79 02 18 61 00000002 ff ff00 ff",
-    ),
-    (
-        9,
-        65,
-        "00000035 0000bb80 0002 0000000000000000 01 01 02 01 61 02 10 60 01 01
-            01 78 02 10 60 00000001 ff ff00 ff00 01 79 02 18 61 00000002 ff ff00 ff00 00",
-    ),
-    // the rate, the frames, the base and the hold
-    (13, 17, "0000bb81"),
-    (17, 19, "0000"),
-    (19, 27, "ffffffffffffffff"),
-    (27, 28, "41"),
-    // no output
-    (
-        9,
-        65,
-        "00000018 0000bb80 0002 0000000000000000 01 01 00 01 61 02 10 60 01 01",
-    ),
-    // an id with a space, one id twice, and ids of no byte and of 33
-    (31, 32, "20"),
-    (52, 53, "78"),
-    (
-        9,
-        65,
-        "00000033 0000bb80 0002 0000000000000000 01 01 02 00 02 10 60 01 01
-            01 78 02 10 60 00000001 ff ff00 ff00 01 79 02 18 61 00000002 ff ff00 ff00",
-    ),
-    (
-        9,
-        65,
-        "00000054 0000bb80 0002 0000000000000000 01 01 02
-            21 616161616161616161616161616161616161616161616161616161616161616161 02 10 60 01 01
-            01 78 02 10 60 00000001 ff ff00 ff00 01 79 02 18 61 00000002 ff ff00 ff00",
-    ),
-    // an input's channels, bits, payload type, block size and reordering
-    (32, 33, "00"),
-    (33, 34, "11"),
-    (34, 35, "80"),
-    (35, 36, "02"),
-    (36, 37, "00"),
-    (36, 37, "02"),
-    // a routable list with no member
-    (46, 47, "00"),
-    // a base row with another unrouted cell, and with a channel and an input that aren't there
-    (47, 49, "ff01"),
-    (47, 49, "0002"),
-    (47, 49, "0100"),
-    // claims of part of a tick, of 257 ticks, and in 3 bytes
-    (70, 74, "00000003"),
-    (70, 74, "00000202"),
-    (66, 71, "00000003"),
-    // an end with a body, no end, and a byte behind the end
-    (75, 79, "00000001 00"),
-    (74, 79, ""),
-    (79, 79, "00"),
-];
-
-/// Changes of the capture with an activation. Its packet stands at 65, claims at 91 and 118, and the activation at 100.
-const RECORD_CHANGES: [(usize, usize, &str); 14] = [
-    // a packet of an input that isn't there
-    (70, 71, "01"),
-    // no such client, no such op, and no output
-    (105, 106, "10"),
-    (106, 107, "01"),
-    (101, 118, "00000003 00 00 00"),
-    // outputs that don't ascend, and one that isn't there
-    (113, 114, "00"),
-    (108, 114, "01 01 00 0000 00"),
-    (113, 114, "02"),
-    // channels that don't ascend, and one that isn't there
-    (101, 118, "0000000b 00 00 01 00 02 00 0000 00 0000"),
-    (115, 116, "02"),
-    // an input and a channel of it that aren't there, and another unrouted cell
-    (116, 117, "01"),
-    (117, 118, "02"),
-    (116, 118, "ff01"),
-    // a byte behind the action
-    (101, 118, "0000000e 00 00 02 00 01 000000 01 01 000001 00"),
-    // claims of part of a tick
-    (123, 127, "00000002"),
-];
-
-fn refuse_all(
-    rt: &impl Abort,
-    alloc: Global,
-    records: &str,
-    changes: &[(usize, usize, &str)],
-) -> Result<(), Fail> {
-    let whole = capture(alloc, records)?;
-    for (from, to, digits) in changes {
-        let input = spliced(alloc, &whole, *from, *to, digits)?;
-        let ran = run(alloc, &["serial"], input, NO_FAULT)?;
-        expect(rt, &ran, 5, &[], "refused: not-yet\n");
-    }
-    Ok(())
-}
-
-/// The id of an input or output: a digit or a capital letter.
-fn id_byte(number: u8) -> u8 {
-    match number {
-        0..=9 => b'0' + number,
-        _ => b'A' + number.min(35) - 10,
-    }
-}
-
-/// Inputs, or outputs with unrouted rows: how many, and their channels.
-type Ports = (u8, u8);
-
-/// The body of a plain device record in L16, with so many frames a tick.
-fn device_body(alloc: Global, frames: u8, inputs: Ports, outputs: Ports) -> Result<Vec<u8>, Fail> {
-    let mut made = hex(alloc, "0000bb80 00")?;
-    made.push(frames)?;
-    push_hex(&mut made, "0000000000000000 01")?;
-    made.push(inputs.0)?;
-    made.push(outputs.0)?;
-    for input in 0..inputs.0 {
-        made.extend_from_slice(&[1, id_byte(input), inputs.1, 16, 96, 1, 1])?;
-    }
-    for output in 0..outputs.0 {
-        made.extend_from_slice(&[1, id_byte(output), outputs.1, 16, 96, 0, 0, 0, 1, 255])?;
-        for _ in 0..outputs.1 {
-            made.extend_from_slice(&[255, 0])?;
-        }
-    }
-    Ok(made)
-}
-
-/// A capture of this device and no work.
-fn device_alone(alloc: Global, frames: u8, inputs: Ports, outputs: Ports) -> Result<Vec<u8>, Fail> {
-    let body = device_body(alloc, frames, inputs, outputs)?;
-    let mut made = hex(alloc, "43484d434150310a 44 0000")?;
-    let length = u16::try_from(body.len()).ok().ok_or("a long body")?;
-    made.extend_from_slice(&length.to_be_bytes())?;
-    made.extend_from_slice(&body)?;
-    push_hex(&mut made, "45 00000000")?;
-    Ok(made)
-}
-
-#[test]
-fn limits_of_a_device(rt: HostRuntime) -> Result<(), Fail> {
-    let alloc = rt.alloc();
-    for (frames, inputs, outputs, status) in [
-        // the most inputs, outputs, channels of all inputs, channels of one, frames, and bytes of a packet's samples
-        (2, (16, 8), (32, 2), 0),
-        (2, (2, 64), (1, 64), 0),
-        (240, (0, 1), (1, 3), 0),
-        // one more of each
-        (2, (17, 1), (1, 1), 5),
-        (2, (1, 1), (33, 1), 5),
-        (2, (3, 43), (1, 1), 5),
-        (2, (1, 65), (1, 1), 5),
-        (2, (1, 1), (1, 65), 5),
-        (241, (1, 1), (1, 1), 5),
-        (240, (1, 1), (1, 4), 5),
-    ] {
-        let input = device_alone(alloc, frames, inputs, outputs)?;
-        let ran = run(alloc, &["serial"], input, NO_FAULT)?;
-        assert_eq!(rt; ran.status, status);
-    }
-    Ok(())
-}
-
-/// A capture with so many activations of both outputs.
-fn activations(alloc: Global, count: usize) -> Result<Vec<u8>, Fail> {
-    let mut made = hex(alloc, DEVICE)?;
-    for _ in 0..count {
-        push_hex(&mut made, "41 0000000d 00 00 02 00 01 000000 01 01 000001")?;
-    }
-    push_hex(&mut made, "45 00000000")?;
-    Ok(made)
-}
-
-#[test]
-fn refusals_of_the_plain_form(rt: HostRuntime) -> Result<(), Fail> {
-    let alloc = rt.alloc();
-    refuse_all(&rt, alloc, TWO_TICKS, &DEVICE_CHANGES)?;
-    refuse_all(&rt, alloc, MID_TICK, &RECORD_CHANGES)?;
-    // two base entries, and two of each activation: 512 are the most
-    let most = run(alloc, &["serial"], activations(alloc, 255)?, NO_FAULT)?;
-    assert_eq!(rt; most.status, 0);
-    let more = run(alloc, &["serial"], activations(alloc, 256)?, NO_FAULT)?;
-    expect(&rt, &more, 5, &[], "refused: not-yet\n");
     Ok(())
 }

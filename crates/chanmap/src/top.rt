@@ -1,14 +1,20 @@
 //! The top call: what the program does with its words, its source and its sinks.
 
-ghost use Rattle.std.specs.Prelude.{◌≡◌, ◌+◌, ◌∷◌, [], ◌⊎◌, ◌↔◌, IsTrue, IfOk, OnOk, OnErr, IsErrOf, Contains};
-ghost use Rattle.std.specs.Io.KnownBytes.{Appends};
-ghost use Rattle.capture_file.specs.Capture.{CaptureParts};
-ghost use Rattle.capture_file.specs.Fault.{IsFault};
+ghost use Rattle.std.specs.Prelude.{◌≡◌, ◌+◌, ◌∷◌, [], ◌⊎◌, ◌↔◌, Some, None};
+ghost use Rattle.std.specs.Prelude.{IfOk, IfErr, OnOk, OnErr, IsErrOf, Contains};
 ghost use Rattle.chan_io.specs.Causes.{Rose};
-ghost use Rattle.chan_io.specs.Streams.{BoundedRead, LongRead, TakesPrefix};
-ghost use Rattle.chanmap.specs.Top.{HasNoForm, HoldsCapture, HoldsNoCapture, HoldsTooMuch, IsAnswer, IsCutShort, IsDone, IsRead, IsSerial, line_of, status_of};
+ghost use Rattle.chan_io.specs.Streams.{BoundedRead, LongRead};
+ghost use Rattle.capture_file.specs.Walk.{IfFault};
+ghost use Rattle.capture_file.specs.declared.fault.CaptureFault.{CaptureFault};
+ghost use Rattle.chanmap.specs.Top.{HoldsCapture, HoldsFault, HoldsTooMuch, IsAnswer, IsCutShort};
+ghost use Rattle.chanmap.specs.Top.{IsDone, IsFaulty, IsNoCapture, IsSerialAnswer, IsTold, IsToldEnd};
+ghost use Rattle.chanmap.specs.Top.{IsToldFault, IsWholeInput, command_of, line_of};
+ghost use Rattle.chanmap.specs.declared.command.Command.{Command};
+ghost use Rattle.chanmap.specs.declared.end.End.TheVariants.{NoMemory};
 
-use capture_file::{CaptureFault, CaptureKind, read_capture, write_result};
+use crate::command::{Command, command_of};
+use crate::end::{End, tell};
+use capture_file::{Capture, CaptureFault, CaptureKind, read_capture, write_result};
 use chan_io::{Sink, Source, Unread, read_whole, write_whole};
 use io_caps::Or;
 use serial_player::serial;
@@ -19,81 +25,45 @@ pub const MOST_BYTES: usize = 67_108_864;
 
 const _: () = prove!(MOST_BYTES == 67_108_864);
 
-/// Why a run ends otherwise than well.
-#[derive(Clone, Copy, Debug, PartialEq, Eq)]
-enum End {
-    /// The words are those of no command.
-    Usage,
-    /// The source failed.
-    ReadFault,
-    /// The sink of the result failed.
-    WriteFault,
-    /// The input is no capture of the plain form.
-    Refused,
-    /// The input has more than `MOST_BYTES`.
-    TooLong,
-    /// Memory ran out.
-    NoMemory,
-}
-
-impl End {
-    /// The exit status.
-    fn status(self) -> u8
-        ensures { result ≡ status_of self }
-    {
-        match self {
-            End::Usage => 2,
-            End::ReadFault => 3,
-            End::WriteFault => 4,
-            End::Refused => 5,
-            End::TooLong => 7,
-            End::NoMemory => 12,
-        }
-    }
-
-    /// The line that tells it.
-    fn line(self) -> &'static str
-        ensures { result.now ≡ line_of (status_of self) }
-    {
-        match self {
-            End::Usage => "usage: chanmap serial\n",
-            End::ReadFault => "read fault\n",
-            End::WriteFault => "write fault\n",
-            End::Refused => "refused: not-yet\n",
-            End::TooLong => "too long\n",
-            End::NoMemory => "no memory\n",
-        }
-    }
-}
-
-/// Whether the words are those of the one command.
-fn is_serial(words: &[String]) -> bool
-    ensures { IsTrue result ↔ IsSerial words.now }
-{
-    match words {
-        [word] => word.as_str() == "serial",
-        [] | [_, _, ..] => false,
-    }
-}
-
-/// The result of the capture that these bytes are. A fault comes exactly where they are no capture of the plain form.
-fn answer(alloc: Global, bytes: &[u8]) -> Result<Vec<u8>, Or<CaptureFault>>
-    ensures ok { IfOk result (λ text. IsAnswer bytes.now text.items) }
-    ensures refused { IsFault result → (capture : CaptureParts) → IsRead capture bytes.now → ⊥ }
+/// The capture that all of these bytes are, or their first fault.
+fn read_all<'a>(alloc: Global, bytes: &'a [u8]) -> Result<Capture<'a>, Or<CaptureFault>>
+    ensures found { IfOk result (IsWholeInput bytes.now) }
+    ensures fault { IfErr result (λ e. IfFault e (IsNoCapture bytes.now)) }
 {
     let (capture, place) = read_capture(alloc, bytes)?;
-    if place != bytes.len() {
-        return Err(Or::Fault(CaptureFault {
-            kind: CaptureKind::NotYet,
-        }));
+    if place == bytes.len() {
+        Ok(capture)
+    } else {
+        Err(Or::Fault(CaptureFault {
+            at: place as u64,
+            kind: CaptureKind::Trailing,
+        }))
     }
+}
+
+/// The result of the serial history of the capture that these bytes are, or their first fault.
+fn serial_answer(alloc: Global, bytes: &[u8]) -> Result<Vec<u8>, Or<CaptureFault>>
+    ensures ok { IfOk result (λ text. IsSerialAnswer bytes.now text.items) }
+    ensures fault { IfErr result (λ e. IfFault e (IsNoCapture bytes.now)) }
+{
+    let capture = read_all(alloc, bytes)?;
     let history = serial(alloc, &capture)?;
     let mut text = Vec::new(alloc);
     write_result(alloc, &capture.setup.device, &history, &mut text)?;
     Ok(text)
 }
 
-/// Looks at the words, reads the source to its end, and gives the sink the result.
+/// What a command makes of its input, or the input's first fault.
+fn answer(alloc: Global, command: Command, bytes: &[u8]) -> Result<Vec<u8>, Or<CaptureFault>>
+    ensures ok { IfOk result (λ text. IsAnswer command bytes.now text.items) }
+    ensures fault { IfErr result (λ e. IfFault e (IsNoCapture bytes.now)) }
+{
+    match command {
+        Command::Serial => serial_answer(alloc, bytes),
+    }
+}
+
+/// Looks at the words, reads the source to its end, and gives the sink what the command makes.
 #[tactic(auto, using(chan_io::proofs::Told::steps))]
 fn run<S: Source, K: Sink>(
     alloc: Global,
@@ -101,30 +71,39 @@ fn run<S: Source, K: Sink>(
     src: &mut S,
     out: &mut K,
 ) -> Result<(), End>
-    ensures done { OnOk result (IsSerial words.now × IsDone (S.left src.old) (S.left src.new) (K.taken out.old) (K.taken out.new)) }
-    ensures usage { IsErrOf result End.Usage ↔ (IsSerial words.now → ⊥) }
+    ensures done { OnOk result ((command : Command) → command_of words.now ≡ Some command
+        → IsDone command (S.left src.old) (S.left src.new) (K.taken out.old) (K.taken out.new)) }
+    ensures usage { IsErrOf result End.Usage ↔ (command_of words.now ≡ None) }
+    ensures known { OnOk result (command_of words.now ≡ None → ⊥) }
     ensures untouched { IsErrOf result End.Usage → S.left src.new ≡ S.left src.old }
     ensures read_fault { IsErrOf result End.ReadFault → Rose (S.faults src.old) (S.faults src.new) }
-    ensures short { IsErrOf result End.ReadFault → BoundedRead (S.left src.old) (S.left src.new) MOST_BYTES }
-    ensures write_fault { IsErrOf result End.WriteFault → Rose (K.faults out.old) (K.faults out.new) }
-    ensures cut_short { IsErrOf result End.WriteFault → IsCutShort (S.left src.old) (S.left src.new) (K.taken out.old) (K.taken out.new) }
-    ensures refused { IsErrOf result End.Refused → HasNoForm (S.left src.old) (S.left src.new) }
-    ensures too_long { IsErrOf result End.TooLong → LongRead (S.left src.old) (S.left src.new) MOST_BYTES }
+    ensures short { IsErrOf result End.ReadFault
+        → BoundedRead (S.left src.old) (S.left src.new) MOST_BYTES }
+    ensures write_fault { IsErrOf result End.WriteFault
+        → Rose (K.faults out.old) (K.faults out.new) }
+    ensures cut_short { IsErrOf result End.WriteFault
+        → (command : Command) → command_of words.now ≡ Some command
+        → IsCutShort command (S.left src.old) (S.left src.new) (K.taken out.old) (K.taken out.new) }
+    ensures refused { (fault : CaptureFault) → IsErrOf result (End.Refused fault)
+        → IsFaulty (S.left src.old) (S.left src.new) fault }
+    ensures too_long { IsErrOf result End.TooLong
+        → LongRead (S.left src.old) (S.left src.new) MOST_BYTES }
     ensures bounded { BoundedRead (S.left src.old) (S.left src.new) (MOST_BYTES + 1) }
-    ensures nothing { OnErr result ((IsErrOf result End.WriteFault → ⊥) → K.taken out.new ≡ K.taken out.old) }
+    ensures nothing { OnErr result ((IsErrOf result End.WriteFault → ⊥)
+        → K.taken out.new ≡ K.taken out.old) }
 {
-    if !is_serial(words) {
+    let Some(command) = command_of(words) else {
         return Err(End::Usage);
-    }
+    };
     let bytes = match read_whole(alloc, src, MOST_BYTES) {
         Ok(bytes) => bytes,
         Err(Unread::Failed) => return Err(End::ReadFault),
         Err(Unread::TooLong) => return Err(End::TooLong),
         Err(Unread::NoMemory) => return Err(End::NoMemory),
     };
-    let text = match answer(alloc, &bytes) {
+    let text = match answer(alloc, command, &bytes) {
         Ok(text) => text,
-        Err(Or::Fault(_)) => return Err(End::Refused),
+        Err(Or::Fault(fault)) => return Err(End::Refused(fault)),
         Err(Or::NoMemory) => return Err(End::NoMemory),
     };
     match write_whole(out, &text) {
@@ -133,28 +112,18 @@ fn run<S: Source, K: Sink>(
     }
 }
 
-/// Gives `err` the line of an end, and returns its status, also where `err` fails.
-fn tell<X: Sink>(err: &mut X, end: End) -> u8
-    ensures status { result ≡ status_of end }
-    ensures line { TakesPrefix (X.taken err.old) (X.taken err.new) (line_of (status_of end)) }
-    ensures told { (Rose (X.faults err.old) (X.faults err.new) → ⊥) → Appends (X.taken err.old) (X.taken err.new) (line_of (status_of end)) }
-{
-    let _ = write_whole(err, end.line().as_bytes());
-    end.status()
-}
-
-/// Ends a run whose words found no memory: gives `err` the line that says so, and returns its status.
+/// Ends a run whose words found no memory: gives `err` the line of that, and returns its status.
 pub fn without_words<X: Sink>(err: &mut X) -> u8
-    ensures status { result ≡ 12 }
-    ensures line { TakesPrefix (X.taken err.old) (X.taken err.new) (line_of 12) }
-    ensures told { (Rose (X.faults err.old) (X.faults err.new) → ⊥) → Appends (X.taken err.old) (X.taken err.new) (line_of 12) }
+    ensures { IsToldEnd result (X.taken err.old) (X.taken err.new) (Rose (X.faults err.old) (X.faults
+        err.new)) NoMemory }
 {
     tell(err, End::NoMemory)
 }
 
-/// Does what the words behind the program's name say, and returns the exit status. The words are looked at first, then
-/// the source is read to its end, then its bytes are read as a capture, and then its result is given to `out`. Each status
-/// but 0 gives `err` a line; where `err` fails, the status stays.
+/// Does what the words behind the program's name say, and returns the exit status. The words are
+/// looked at first, then the source is read to its end, then its bytes are read as the command's
+/// input, and then what the command makes of them is given to `out`. Each status but 0 gives `err` a
+/// line; where `err` fails, the status stays.
 ///
 /// | status | comes | line |
 /// |---|---|---|
@@ -162,7 +131,7 @@ pub fn without_words<X: Sink>(err: &mut X) -> u8
 /// | 2 | exactly where the words are not `serial` alone | `usage: chanmap serial` |
 /// | 3 | only where the source's count of faults rose | `read fault` |
 /// | 4 | only where the count of `out` rose, which took the front of the result | `write fault` |
-/// | 5 | the source was read to its end, and its bytes are no capture of the plain form | `refused: not-yet` |
+/// | 5 | all was read, and the bytes are no capture; P and KIND tell the first fault | `refused at P: KIND` |
 /// | 7 | `MOST_BYTES` + 1 bytes were read | `too long` |
 /// | 12 | memory ran out | `no memory` |
 pub fn chanmap<S: Source, K: Sink, X: Sink>(
@@ -174,35 +143,49 @@ pub fn chanmap<S: Source, K: Sink, X: Sink>(
 ) -> u8
     // There are no other statuses.
     ensures statuses { Contains (0 ∷ 2 ∷ 3 ∷ 4 ∷ 5 ∷ 7 ∷ 12 ∷ []) result }
-    // The source was read to its end, and `out` took the result of the capture's serial history.
-    ensures done { result ≡ 0 → IsDone (S.left src.old) (S.left src.new) (K.taken out.old) (K.taken out.new) }
-    // The words are none of the forms.
-    ensures usage { (result ≡ 2) ↔ (IsSerial words.now → ⊥) }
+    // The words are those of no command.
+    ensures usage { (result ≡ 2) ↔ (command_of words.now ≡ None) }
     // Then nothing was read.
     ensures untouched { result ≡ 2 → S.left src.new ≡ S.left src.old }
+    // The source was read to its end, and `out` took what the command makes of it: of `serial` the
+    // result of the capture's serial history, which is legal.
+    ensures done { result ≡ 0 → (command : Command) → command_of words.now ≡ Some command
+        → IsDone command (S.left src.old) (S.left src.new) (K.taken out.old) (K.taken out.new) }
     // Only where the source's count rose, and not more than the most was read.
     ensures read_fault { result ≡ 3 → Rose (S.faults src.old) (S.faults src.new) }
     ensures short { result ≡ 3 → BoundedRead (S.left src.old) (S.left src.new) MOST_BYTES }
-    // Only where the count of `out` rose, which took the front of the result.
+    // Only where the count of `out` rose, which took the front of what the command makes.
     ensures write_fault { result ≡ 4 → Rose (K.faults out.old) (K.faults out.new) }
-    ensures cut_short { result ≡ 4 → IsCutShort (S.left src.old) (S.left src.new) (K.taken out.old) (K.taken out.new) }
-    // All was read, and the bytes have not the plain form.
-    ensures refused { result ≡ 5 → HasNoForm (S.left src.old) (S.left src.new) }
+    ensures cut_short { result ≡ 4 → (command : Command) → command_of words.now ≡ Some command
+        → IsCutShort command (S.left src.old) (S.left src.new) (K.taken out.old) (K.taken out.new) }
+    // All was read, and the bytes have a fault; the line tells where the first one is, and its
+    // kind.
+    ensures refused { result ≡ 5 → IsToldFault (S.left src.old) (S.left src.new) (X.taken err.old)
+        (X.taken err.new) (Rose (X.faults err.old) (X.faults err.new)) }
     // One byte more than the most was read.
     ensures too_long { result ≡ 7 → LongRead (S.left src.old) (S.left src.new) MOST_BYTES }
     // Never is more read.
     ensures bounded { BoundedRead (S.left src.old) (S.left src.new) (MOST_BYTES + 1) }
-    // A capture of the plain form gets its result, unless the outside fails or memory runs out.
-    ensures complete { IsSerial words.now → HoldsCapture (S.left src.old) → (Rose (S.faults src.old) (S.faults src.new) → ⊥) → (Rose (K.faults out.old) (K.faults out.new) → ⊥) → (result ≡ 0) ⊎ (result ≡ 12) }
-    // Bytes that are no capture of the plain form are refused, and too many are too long, unless the outside fails or memory
+    // A capture gets its result, unless the outside fails or memory runs out.
+    ensures complete { (command : Command) → command_of words.now ≡ Some command
+        → HoldsCapture (S.left src.old) → (Rose (S.faults src.old) (S.faults src.new) → ⊥)
+        → (Rose (K.faults out.old) (K.faults out.new) → ⊥) → (result ≡ 0) ⊎ (result ≡ 12) }
+    // Bytes with a fault are refused, and too many are too long, unless the outside fails or memory
     // runs out.
-    ensures refuses { IsSerial words.now → HoldsNoCapture (S.left src.old) → (Rose (S.faults src.old) (S.faults src.new) → ⊥) → (result ≡ 5) ⊎ (result ≡ 12) }
-    ensures stops { IsSerial words.now → HoldsTooMuch (S.left src.old) → (Rose (S.faults src.old) (S.faults src.new) → ⊥) → (result ≡ 7) ⊎ (result ≡ 12) }
+    ensures refuses { (command : Command) (fault : CaptureFault)
+        → command_of words.now ≡ Some command
+        → HoldsFault (S.left src.old) fault → (Rose (S.faults src.old) (S.faults src.new) → ⊥)
+        → (result ≡ 5) ⊎ (result ≡ 12) }
+    ensures stops { (command : Command) → command_of words.now ≡ Some command
+        → HoldsTooMuch (S.left src.old) → (Rose (S.faults src.old) (S.faults src.new) → ⊥)
+        → (result ≡ 7) ⊎ (result ≡ 12) }
     // With each other status than 0 and 4 `out` took nothing.
     ensures nothing { (result ≡ 0 → ⊥) → (result ≡ 4 → ⊥) → K.taken out.new ≡ K.taken out.old }
-    // `err` took the status's line, or its front where its count rose.
-    ensures line { TakesPrefix (X.taken err.old) (X.taken err.new) (line_of result) }
-    ensures told { (Rose (X.faults err.old) (X.faults err.new) → ⊥) → Appends (X.taken err.old) (X.taken err.new) (line_of result) }
+    // With status 0 `err` took nothing; with each other `err` took the line of an end that has this
+    // status.
+    ensures quiet { result ≡ 0 → X.taken err.new ≡ X.taken err.old }
+    ensures told { (result ≡ 0 → ⊥) → IsTold result (X.taken err.old) (X.taken err.new)
+        (Rose (X.faults err.old) (X.faults err.new)) }
 {
     match run(alloc, words, src, out) {
         Ok(()) => 0,
