@@ -1,122 +1,37 @@
-"""What `chanmap serial` makes of a capture, after docs/FORMATS.md: a second opinion, for tests.
+"""What `chanmap serial` makes of a capture, after docs/FORMATS.md and the two pages behind it: a second opinion, for tests.
 
-It is written from that page alone. It goes through the records one by one and builds each packet when its claim is made,
+It is written from those pages alone. It goes through the records one by one and builds each packet when its claim is made,
 with the rows known then; the definitions that the proofs stand on take the whole journal instead.
 """
 
 from __future__ import annotations
 
 import struct
-from dataclasses import dataclass, field
+from dataclasses import dataclass
 from typing import Dict, List, Optional, Tuple, Union
 
-RATES = (44100, 48000, 96000, 192000)
+from model_api import Api, json_device
+from model_book import BILLION, SECONDS, Book, Cell, Device, Misread, Port, Reader, Request
+from model_book import read_device, read_request, record, require, wide
+from model_http import Doubtful, HttpRequest, HttpStream, refused
+
+__all__ = ["BILLION", "SECONDS", "Doubtful", "Refused", "record", "result"]
+
 STAMPS = 1 << 32  # timestamps are told up to multiples of it
-SECONDS = 1 << 40  # the end of time
-PAST_BASE = 1 << 23  # so many ticks from the first one start before it
-WIDTHS = {16: 2, 24: 3}  # the bytes of a sample, by its bits
-ID_BYTES = frozenset(b"0123456789ABCDEFGHIJKLMNOPQRSTUVWXYZabcdefghijklmnopqrstuvwxyz-_")
-Cell = Optional[Tuple[int, int]]  # an input and its channel, or unrouted
-Changes = Dict[int, Dict[int, Cell]]  # the cells that an activation sets, by output and channel
+CLIENTS = 16
+TICKS = 256  # the most of a capture
 
 
 class Refused(Exception):
-    """The bytes are no capture of the plain form."""
+    """The bytes are no capture: the place of the first record at fault, and the kind of the fault."""
 
+    def __init__(self, at: int, kind: str) -> None:
+        super().__init__(at, kind)
+        self.at = at
+        self.kind = kind
 
-def require(holds: bool) -> None:
-    if not holds:
-        raise Refused
-
-
-class Reader:
-    """Bytes that are read from the front."""
-
-    def __init__(self, data: bytes) -> None:
-        self.data = data
-        self.at = 0
-
-    def take(self, count: int) -> bytes:
-        require(self.at + count <= len(self.data))
-        self.at += count
-        return self.data[self.at - count : self.at]
-
-    def number(self, length: int) -> int:
-        return int.from_bytes(self.take(length), "big")
-
-    def record(self) -> tuple[bytes, bytes]:
-        tag = self.take(1)
-        return tag, self.take(self.number(4))
-
-    def cell(self) -> Cell:
-        source, channel = self.number(1), self.number(1)
-        require(source != 255 or channel == 0)
-        return None if source == 255 else (source, channel)
-
-    def end(self) -> None:
-        require(self.at == len(self.data))
-
-
-@dataclass
-class Port:
-    """An input, or an output with its base row."""
-
-    name: bytes
-    channels: int
-    width: int
-    payload_type: int
-    ssrc: int = 0
-    row: list[Cell] = field(default_factory=list)
-
-
-@dataclass
-class Device:
-    frames: int
-    base: int
-    hold: int
-    inputs: list[Port]
-    outputs: list[Port]
-
-    def has(self, cell: Cell) -> bool:
-        return cell is None or (cell[0] < len(self.inputs) and cell[1] < self.inputs[cell[0]].channels)
-
-
-def read_port(body: Reader, output: bool) -> Port:
-    port = Port(body.take(body.number(1)), body.number(1), WIDTHS.get(body.number(1), 0), body.number(1))
-    require(1 <= len(port.name) <= 32 and ID_BYTES.issuperset(port.name))
-    require(1 <= port.channels <= 64 and port.payload_type <= 127)
-    if output:
-        port.ssrc = body.number(4)
-        require(body.number(1) == 255)
-        port.row = [body.cell() for _ in range(port.channels)]
-    else:
-        require(body.take(2) == b"\1\1")
-    return port
-
-
-def read_device(data: bytes) -> Device:
-    body = Reader(data)
-    hz, frames, base, hold = body.number(4), body.number(2), body.number(8), body.number(1)
-    require(hz in RATES and 1 <= frames <= 240 and hold <= 64)
-    require((base + PAST_BASE) * frames < hz * SECONDS)
-    counts = body.number(1), body.number(1)
-    require(counts[0] <= 16 and 1 <= counts[1] <= 32)
-    device = Device(
-        frames,
-        base,
-        hold,
-        [read_port(body, False) for _ in range(counts[0])],
-        [read_port(body, True) for _ in range(counts[1])],
-    )
-    body.end()
-    for ports in (device.inputs, device.outputs):
-        require(len({port.name for port in ports}) == len(ports))
-    require(sum(port.channels for port in device.inputs) <= 128)
-    require(all(port.width in (2, 3) for port in device.inputs))
-    for port in device.outputs:
-        require(port.width in (2, 3) and frames * port.channels * port.width <= 1440)
-        require(all(device.has(cell) for cell in port.row))
-    return device
+    def line(self) -> bytes:
+        return f"refused at {self.at}: {self.kind}\n".encode()
 
 
 def read_rtp(data: bytes) -> Optional[Tuple[int, int, bytes]]:
@@ -141,7 +56,7 @@ def read_rtp(data: bytes) -> Optional[Tuple[int, int, bytes]]:
     return data[1] & 127, int.from_bytes(data[4:8], "big"), rest
 
 
-class Stream:
+class Arrivals:
     """What an input's packets bring to a session: the samples of its frames, counted from the first one."""
 
     def __init__(self, device: Device, port: Port, ticks: int) -> None:
@@ -180,111 +95,181 @@ class Stream:
         return int.from_bytes(data, "big", signed=True) << (8 * (3 - width))
 
 
-def read_activation(device: Device, data: bytes) -> Changes:
-    body = Reader(data)
-    require(body.number(1) <= 15 and body.number(1) == 0)
-    changes: Changes = {}
-    for _ in range(body.number(1)):
-        output = body.number(1)
-        require(max(changes, default=-1) < output < len(device.outputs))
-        changes[output] = {}
-        for _ in range(body.number(1)):
-            channel = body.number(1)
-            require(max(changes[output], default=-1) < channel < device.outputs[output].channels)
-            changes[output][channel] = body.cell()
-    body.end()
-    require(len(changes) > 0 and all(device.has(cell) for cells in changes.values() for cell in cells.values()))
-    return changes
+Stamp = Tuple[int, int]  # calls and claims
+Ask = Union[Request, HttpRequest, int]  # a plain request, one of a stream, or the status that refuses a stream
 
 
-def record(tag: bytes, body: bytes) -> bytes:
-    return tag + len(body).to_bytes(4, "big") + body
+class Client:
+    """A client's stream, and the stamp from which it goes on."""
+
+    def __init__(self) -> None:
+        self.stream = HttpStream()
+        self.next: Stamp = (0, 0)
 
 
 class Player:
-    """A device at work: its rows by tick, what its inputs brought, and the result so far."""
+    """A device at work: its book, what its inputs brought, and the records of the result so far."""
 
-    def __init__(self, device: Device, streams: list[Stream]) -> None:
+    def __init__(self, device: Device, arrivals: List[Arrivals]) -> None:
         self.device = device
-        self.streams = streams
-        self.rows = [[(device.base, output.row)] for output in device.outputs]
-        self.claims = 0
-        self.calls = 0
-        self.replies = b""  # they stand behind all calls of their number of claims
-        self.result = b"CHMRES1\n"
-
-    def row(self, output: int, tick: int) -> list[Cell]:
-        return [row for start, row in self.rows[output] if start <= tick][-1]
+        self.arrivals = arrivals
+        self.book = Book(device)
+        self.api = Api(device, self.book)
+        self.clients = [Client() for _ in range(CLIENTS)]
+        self.calls: List[Tuple[int, bytes]] = []  # each with its number of claims
+        self.replies: List[Tuple[int, int, int, bytes]] = []  # each with its claims, calls and client
+        self.claims: List[bytes] = []
 
     def sample(self, cell: Cell, frame: int) -> int:
-        return 0 if cell is None else self.streams[cell[0]].sample(frame, cell[1])
+        return 0 if cell is None else self.arrivals[cell[0]].sample(frame, cell[1])
 
     def claim(self) -> None:
-        place, output = divmod(self.claims, len(self.device.outputs))
+        place, output = divmod(len(self.claims), len(self.device.outputs))
         tick = self.device.base + place
-        port, row = self.device.outputs[output], self.row(output, tick)
+        port, row = self.device.outputs[output], self.book.row(output, tick)
         named = {cell[0] for cell in row if cell is not None}
-        found = bytes(source in named and stream.has_block(place) for source, stream in enumerate(self.streams))
+        found = bytes(source in named and one.has_block(place) for source, one in enumerate(self.arrivals))
         timestamp = tick * self.device.frames % STAMPS
         packet = struct.pack(">BBHII", 0x80, port.payload_type, tick % (1 << 16), timestamp, port.ssrc)
         for frame in range(place * self.device.frames, (place + 1) * self.device.frames):
             for cell in row:
                 sample = self.sample(cell, frame) >> (8 * (3 - port.width))
                 packet += sample.to_bytes(port.width, "big", signed=True)
-        self.result += self.replies + record(b"C", self.claims.to_bytes(8, "big") + found + packet)
-        self.replies = b""
-        self.claims += 1
+        self.claims.append(record(b"C", wide(len(self.claims)) + found + packet))
 
-    def activate(self, body: bytes, changes: Changes) -> None:
-        tick = self.device.base - (-self.claims // len(self.device.outputs))
-        for output, cells in changes.items():
-            row = [cells.get(channel, cell) for channel, cell in enumerate(self.row(output, tick))]
-            self.rows[output].append((tick, row))
-        client, calls = body[0], self.calls
-        self.calls += 1
-        accepted = struct.pack(">QQ", self.calls, tick)
-        self.result += record(b"H", struct.pack(">QB", self.claims, client) + accepted + body[1:])
-        self.replies += record(b"R", struct.pack(">BQQBB", client, calls, self.claims, 1, 0) + accepted)
+    def ask(self, client: int, ask: Ask) -> None:
+        """A reply has the stamp at which the book was asked; else the one from which its client goes on."""
+        claims, asked = len(self.claims), []
 
-    def end(self) -> bytes:
-        return self.result + self.replies + record(b"E", b"")
+        def book(request: Request) -> bytes:
+            calls = self.book.calls
+            reply, accepted = self.book.answer(self.device.first(claims), request)
+            if accepted is not None:
+                self.book.calls += 1
+                self.calls.append((claims, record(b"H", wide(claims) + bytes([client]) + accepted + request.text)))
+            asked.append((calls, accepted is not None))
+            return reply
+
+        if isinstance(ask, Request):
+            said = b"\1" + book(ask)
+        elif isinstance(ask, HttpRequest):
+            said = b"\0" + self.api.answer(ask, self.device.first(claims), book)
+        else:
+            said = b"\0" + refused(ask)
+        one = self.clients[client]
+        stamp = one.next
+        if asked:
+            stamp = asked[0][0], claims
+            one.next = asked[0][0] + asked[0][1], claims
+        self.replies.append((stamp[1], stamp[0], client, record(b"R", bytes([client]) + wide(*stamp) + said)))
+
+    def piece(self, client: int, data: bytes) -> None:
+        for ask in self.clients[client].stream.feed(data):
+            self.ask(client, ask)
+
+    def result(self) -> bytes:
+        """At each number of claims the calls, then the replies, then the claim of that number."""
+        parts = [[] for _ in range(len(self.claims) + 1)]
+        for claims, text in self.calls:
+            parts[claims].append(text)
+        for claims, _, _, text in sorted(self.replies, key=lambda reply: reply[:3]):
+            parts[claims].append(text)
+        for number, text in enumerate(self.claims):
+            parts[number].append(text)
+        return b"CHMRES1\n" + b"".join(b"".join(part) for part in parts) + record(b"E", b"")
+
+
+Event = Union[int, Tuple[int, Request], Tuple[int, bytes]]  # so many claims, a client's request, or a piece of its stream
+
+
+@dataclass
+class Capture:
+    device: Device
+    events: List[Event]
+    packets: List[Tuple[int, bytes]]
+    ticks: int
+
+
+class Records:
+    """The records of a capture, one by one, with the first fault and its place."""
+
+    def __init__(self, data: bytes) -> None:
+        self.data = data
+        if data[:8] != b"CHMCAP1\n":
+            raise Refused(0, "magic")
+        self.at = self.behind = 8
+
+    def next(self) -> tuple[bytes, bytes]:
+        self.at = self.behind
+        head = self.data[self.at : self.at + 5]
+        self.behind = self.at + 5 + int.from_bytes(head[1:], "big")
+        if len(head) < 5 or self.behind > len(self.data):
+            raise Refused(self.at, "cut")
+        return head[:1], self.data[self.at + 5 : self.behind]
+
+    def read(self, kind: str, reading, body: bytes):
+        try:
+            return reading(body)
+        except Misread:
+            raise Refused(self.at, kind) from None
+
+
+def read_first(records: Records) -> Device:
+    tag, body = records.next()
+    readings = {b"D": read_device, b"J": json_device}
+    if tag not in readings:
+        raise Refused(records.at, "order" if tag in b"PQATE" else "tag")
+    return records.read("device", readings[tag], body)
+
+
+def read_item(device: Device, tag: bytes, body: bytes) -> Union[Event, Tuple[int, bytes]]:
+    text = Reader(body)
+    if tag == b"T":
+        claims = text.number(4)
+        text.end()
+        return claims
+    number = text.number(1)
+    require(number < (len(device.inputs) if tag == b"P" else CLIENTS))
+    return number, read_request(body[1:]) if tag == b"A" else body[1:]
+
+
+def read_capture(data: bytes) -> Capture:
+    """The capture. `Refused` where the bytes are none."""
+    records = Records(data)
+    capture = Capture(read_first(records), [], [], 0)
+    tag, body = records.next()
+    while tag != b"E":
+        if tag in b"DJ":
+            raise Refused(records.at, "order")
+        if tag not in b"PQAT":
+            raise Refused(records.at, "tag")
+        item = records.read("body", lambda text, tag=tag: read_item(capture.device, tag, text), body)
+        (capture.packets if tag == b"P" else capture.events).append(item)
+        tag, body = records.next()
+    if body != b"":
+        raise Refused(records.at, "body")
+    claims = sum(event for event in capture.events if isinstance(event, int))
+    capture.ticks, rest = divmod(claims, len(capture.device.outputs))
+    if rest > 0 or capture.ticks > TICKS:
+        raise Refused(records.at, "work")
+    if records.behind < len(data):
+        raise Refused(records.behind, "trailing")
+    return capture
 
 
 def result(data: bytes) -> bytes:
-    """The result of a capture. `Refused` where it hasn't the plain form."""
-    text = Reader(data)
-    require(text.take(8) == b"CHMCAP1\n")
-    tag, body = text.record()
-    require(tag == b"D")
-    device = read_device(body)
-    events: List[Union[int, Tuple[bytes, Changes]]] = []  # so many claims, or an activation
-    packets: List[Tuple[int, bytes]] = []
-    entries, claims = len(device.outputs), 0
-    tag, body = text.record()
-    while tag != b"E":
-        if tag == b"P":
-            require(len(body) >= 1 and body[0] < len(device.inputs))
-            packets.append((body[0], body[1:]))
-        elif tag == b"A":
-            changes = read_activation(device, body)
-            events.append((body, changes))
-            entries += len(changes)
-        else:
-            require(tag == b"T" and len(body) == 4)
-            events.append(int.from_bytes(body, "big"))
-            claims += events[-1]
-        tag, body = text.record()
-    require(body == b"")
-    text.end()
-    require(entries <= 512 and claims % len(device.outputs) == 0 and claims // len(device.outputs) <= 256)
-    streams = [Stream(device, port, claims // len(device.outputs)) for port in device.inputs]
-    for source, packet in packets:
-        streams[source].take(packet)
-    player = Player(device, streams)
-    for event in events:
+    """The result of a capture. `Refused` where the bytes are none; `Doubtful` where the pages leave it open."""
+    capture = read_capture(data)
+    arrivals = [Arrivals(capture.device, port, capture.ticks) for port in capture.device.inputs]
+    for source, packet in capture.packets:
+        arrivals[source].take(packet)
+    player = Player(capture.device, arrivals)
+    for event in capture.events:
         if isinstance(event, int):
             for _ in range(event):
                 player.claim()
+        elif isinstance(event[1], Request):
+            player.ask(*event)
         else:
-            player.activate(*event)
-    return player.end()
+            player.piece(*event)
+    return player.result()

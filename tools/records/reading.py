@@ -10,6 +10,8 @@ from collections.abc import Callable, Generator, Iterator
 from dataclasses import dataclass, field
 from typing import Any, Dict, List, Optional, Tuple
 
+from records import http
+
 MAGICS = {b"CHMCAP1\n": "capture", b"CHMRES1\n": "result"}
 MAGIC_LENGTH = 8
 RECORD_HEAD_LENGTH = 5
@@ -226,7 +228,17 @@ def device_record(fields: Fields, view: View) -> Values:
 
 
 def json_device(fields: Fields, view: View) -> Values:
-    return {"json": quoted(fields.rest())}
+    """The text; and what it says, where that can be shown line by line."""
+    data = fields.rest()
+    values, said = {"json": quoted(data)}, http.device(data)
+    if said is None:
+        return values
+    ports = {
+        side: [Port(quoted(one["id"].encode()), one["channels"], one["bits"]) for one in said[side]]
+        for side in ("inputs", "outputs")
+    }
+    view.device = Device(said["base"], said["frames"], rate=said["rate"], **ports)
+    return {**values, **said}
 
 
 def action(fields: Fields, device: Device) -> List[Values]:
@@ -316,7 +328,8 @@ FORMS = {0: "HTTP", 1: "plain"}
 
 def reply(fields: Fields, device: Device) -> Values:
     if chosen(FORMS, fields.number(), "form") == "HTTP":
-        return {"form": "HTTP", "text": quoted(fields.rest())}
+        data = fields.rest()
+        return {"form": "HTTP", **(http.response(data) or {}), "text": quoted(data)}
     word, behind = chosen(REPLIES, fields.number(), "reply code")
     return {"form": "plain", "reply": word, **behind(fields, device)}
 
@@ -336,7 +349,10 @@ def packet_record(fields: Fields, view: View) -> Values:
 
 
 def stream_record(fields: Fields, view: View) -> Values:
-    return {"client": fields.number(), "text": quoted(fields.rest())}
+    client, data = fields.number(), fields.rest()
+    found = http.requests(data)
+    whole = {} if found is None else {"requests": found}
+    return {"client": client, **whole, "text": quoted(data)}
 
 
 def request_record(fields: Fields, view: View) -> Values:

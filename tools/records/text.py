@@ -12,6 +12,7 @@ import re
 from dataclasses import dataclass, field
 from typing import Callable, Dict, List, Match, Optional, Tuple
 
+from records import http
 from records.reading import (
     EVERY_INPUT,
     NO_INPUT,
@@ -30,6 +31,8 @@ CAPTURE_MAGIC = b"CHMCAP1\n"
 TONE_PART_OF_FULL_SCALE = 0.5
 MOST_PAYLOAD_TYPE = 127
 MARKER_BIT = 128
+API = "/x-nmos/channelmapping/v1.0/"
+REQUEST = r"client (\d+), ([A-Z]+) (\S+?)(, close)?(?:: (.*))?"
 COMMENT = re.compile(r"(^|\s+)#( .*)?$")
 ESCAPE = re.compile(r"\\(\\|n|r|t|x[0-9a-f]{2})")
 CELL = re.compile(r"(?:(\S+) )?(\d+) <- (?:(unrouted)|(\S+) (\d+))$")
@@ -138,6 +141,7 @@ class Writer:
     is_begun: bool = False
     is_ended: bool = False
     is_device_written: bool = False
+    is_in_json: bool = False
 
     # -- names
 
@@ -158,7 +162,8 @@ class Writer:
     def take_device(self, text: str) -> None:
         if self.device is not None:
             raise TextFault("a second device")
-        if text.startswith("JSON "):
+        if text == "JSON" or text.startswith("JSON "):
+            self.is_in_json = text == "JSON"
             self.device = {"json": text[len("JSON ") :]}
             return
         values = {"rate": 48000, "frames": 48, "base": 0, "hold": 0}
@@ -207,7 +212,9 @@ class Writer:
         self.is_device_written = True
         values = self.device
         if "json" in values:
-            self.records += record_bytes("J", unquoted(values["json"]))
+            data = unquoted(values["json"])
+            self.records += record_bytes("J", data)
+            self.learn(http.device(data))
             return
         body = big(values["rate"], 4, "rate") + big(values["frames"], 2, "frames")
         body += big(values["base"], 8, "base") + big(values["hold"], 1, "hold")
@@ -217,6 +224,15 @@ class Writer:
         for port in self.outputs:
             body += self.output_bytes(port)
         self.records += record_bytes("D", body)
+
+    def learn(self, said: Optional[Values]) -> None:
+        """The ids, widths and rate of a device as JSON."""
+        if said is None:
+            return
+        for ports, side in ((self.inputs, "inputs"), (self.outputs, "outputs")):
+            for one in said[side]:
+                ports.append(TextPort(one["id"], one["channels"], one["bits"], one["type"]))
+        self.device.update({"rate": said["rate"], "frames": said["frames"]})
 
     # -- the other records
 
@@ -336,11 +352,28 @@ class Writer:
         body = big(int(found.group(1)), 1, "client") + unquoted(found.group(2))
         self.records += record_bytes("Q", body)
 
+    def take_http(self, text: str) -> None:
+        """A whole request in one piece; a target without a slash in front is one of the API."""
+        found = matched(REQUEST, text)
+        if not found:
+            raise TextFault("a request of HTTP has a client, a method and a target")
+        target = found.group(3) if found.group(3).startswith("/") else API + found.group(3)
+        body = unquoted(found.group(5) or "")
+        head = f"{found.group(2)} {target} HTTP/1.1\r\nHost: chanmap\r\n"
+        head += f"Content-Length: {len(body)}\r\n" if body else ""
+        head += "Connection: close\r\n" if found.group(4) else ""
+        data = big(int(found.group(1)), 1, "client") + head.encode("utf-8") + b"\r\n" + body
+        self.records += record_bytes("Q", data)
+
     # -- lines
 
     def take_line(self, line: str) -> None:
         if self.is_ended:
             raise TextFault("a line behind the end")
+        if self.is_in_json and line.startswith(" "):
+            self.device["json"] += f"{line.strip()}\n"
+            return
+        self.is_in_json = False
         found = matched(r"(?:\s*\d+ )?\s*(\w+)(?: (.*))?", line)
         word, text = (found.group(1), found.group(2) or "") if found else ("", "")
         if word == "capture" and not self.is_begun:
@@ -362,6 +395,7 @@ class Writer:
             "work": self.take_work,
             "request": self.take_request,
             "stream": lambda behind: self.take_stream(behind.lstrip(" ")),
+            "http": self.take_http,
             "end": lambda behind: None,
         }
         if word not in takers:
@@ -390,7 +424,7 @@ def hexadecimal(text: str) -> bytes:
 
 def uncommented(line: str) -> str:
     """A line without what stands behind a hash and a space; a text in a record may have both."""
-    if re.match(r"[\d ]*(stream|device +JSON) ", line):
+    if re.match(r"[\d ]*(stream|http|device +JSON) ", line):
         return line
     return COMMENT.sub("", line).rstrip()
 
@@ -399,7 +433,7 @@ def capture_of(text: str) -> bytes:
     """The capture that a text tells. Empty lines and comments are passed over."""
     writer = Writer()
     for place, line in enumerate(text.splitlines(), start=1):
-        line = uncommented(line)
+        line = line.rstrip() if writer.is_in_json and line.startswith(" ") else uncommented(line)
         if not line:
             continue
         try:
@@ -446,6 +480,10 @@ def record_lines(record: Record, data: bytes) -> List[str]:
         lines += [f"    {input_words(one)}" for one in record.values["inputs"]]
         lines += [f"    {output_words(one)}" for one in record.values["outputs"]]
         return [f"device   {lines[0]}", *lines[1:]]
+    if record.kind == "device":
+        return [f"device   JSON {record.values['json']}"]
+    if record.kind == "stream":
+        return [f"stream   client {record.values['client']}, {record.values['text']}"]
     if record.kind == "packet":
         words = packet_line(record.values)
         if not words:

@@ -58,7 +58,7 @@ class Timeline:
         marks = {}
         for tick, calls in self.calls.items():
             number = calls[0].values["id"]
-            marks[tick] = "+" if len(calls) > 1 else (str(number) if number < 10 else "*")
+            marks[tick] = "+" if len(calls) > 1 else (str(number) if 0 < number < 10 else "*")
         return marks
 
     def lines(self, chosen: Optional[range] = None, output: Optional[str] = None) -> Iterator[str]:
@@ -78,7 +78,8 @@ class Timeline:
         for tick in sorted(self.calls):
             for call in self.calls[tick]:
                 if tick in ticks:
-                    yield f"call {call.values['id']} from tick {tick}: {request_words(call.values)}"
+                    number = f" {call.values['id']}" if call.values["id"] else ""
+                    yield f"call{number} from tick {tick}: {request_words(call.values)}"
         yield LEGEND
 
 

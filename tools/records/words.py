@@ -4,7 +4,7 @@ from __future__ import annotations
 
 from typing import Dict, List, Optional
 
-from records.reading import Record, Values, counted
+from records.reading import Record, Values, counted, quoted
 
 DEFAULT_SAMPLES = 4
 BYTES_OF_UNKNOWN_SAMPLE = 3
@@ -61,15 +61,16 @@ def output_words(values: Values) -> str:
 
 
 def device_words(values: Values) -> str:
-    """The device; each input and output stands on an indented line with its own offset."""
-    if "json" in values:
+    """The device; inputs and outputs stand on indented lines, in a plain one with their offsets."""
+    if "json" in values and "rate" not in values:
         return f"JSON {values['json']}"
-    text = f"{values['rate']} Hz, {counted(values['frames'], 'frame')} a tick"
+    text = f"{'as JSON, ' if 'json' in values else ''}{values['rate']} Hz"
+    text += f", {counted(values['frames'], 'frame')} a tick"
     text += f", base {values['base']}, hold {values['hold']}"
     text += f", {counted(len(values['inputs']), 'input')}"
     text += f", {counted(len(values['outputs']), 'output')}"
-    ports = [(one["at"], input_words(one)) for one in values["inputs"]]
-    ports += [(one["at"], output_words(one)) for one in values["outputs"]]
+    ports = [(one.get("at", ""), input_words(one)) for one in values["inputs"]]
+    ports += [(one.get("at", ""), output_words(one)) for one in values["outputs"]]
     return text + "".join(f"\n{at:>{OFFSET_LENGTH}}    {words}" for at, words in ports)
 
 
@@ -124,9 +125,28 @@ REPLY_PATTERNS: Dict[str, str] = {
 }
 
 
+def response_words(values: Values) -> str:
+    """A response by its status and body; bytes that are none as they stand."""
+    if "status" not in values:
+        return f"HTTP {values['text']}"
+    text = f"HTTP {values['status']} {values['reason']}"
+    text += f", allowed: {values['allow']}" if values["allow"] else ""
+    text += ", closes" if values["closes"] else ""
+    return f"{text}{': ' if values['body'] else ''}{quoted(values['body'].encode())}"
+
+
+def stream_words(values: Values) -> str:
+    """Whole requests by their method, target and body; another piece as it stands."""
+    if "requests" not in values:
+        return f"piece: {values['text']}"
+    requests = [f"{one['method']} {one['target']}" for one in values["requests"]]
+    bodies = [one["body"] and f": {one['body']}" for one in values["requests"]]
+    return "; ".join(f"{one}{quoted(body.encode())}" for one, body in zip(requests, bodies))
+
+
 def reply_words(values: Values) -> str:
     if values["form"] == "HTTP":
-        return f"HTTP {values['text']}"
+        return response_words(values)
     if values["reply"] == "active":
         return active_words(values)
     if values["reply"] == "pending":
@@ -169,7 +189,7 @@ def words_of(record: Record, samples: int = DEFAULT_SAMPLES) -> str:
     if record.kind == "claim":
         return claim_words(values, samples)
     if record.kind == "stream":
-        return f"client {values['client']}, {values['text']}"
+        return f"client {values['client']}, {stream_words(values)}"
     if record.kind == "request":
         return f"client {values['client']}, {request_words(values)}"
     if record.kind == "work":

@@ -8,7 +8,7 @@ from __future__ import annotations
 
 import os
 import pathlib
-import random
+import re
 import resource
 import subprocess
 import sys
@@ -16,8 +16,9 @@ import tempfile
 import unittest
 
 sys.dont_write_bytecode = True
-sys.path.insert(0, str(pathlib.Path(__file__).resolve().parents[1]))
+sys.path[:0] = [str(folder) for folder in pathlib.Path(__file__).resolve().parents[:2]]
 import model  # noqa: E402 (it stands one folder above)
+from captures import Captures, HttpCaptures  # noqa: E402
 
 CRATE = pathlib.Path(__file__).resolve().parents[2] / "crates" / "chanmap"
 PROGRAM = CRATE / "out" / "chanmap"
@@ -25,7 +26,6 @@ CAPTURE = (CRATE / "stdin").read_bytes()
 RESULT = (CRATE / "stdout").read_bytes()
 MOST = 1 << 26
 USAGE = b"usage: chanmap serial\n"
-REFUSED = b"refused: not-yet\n"
 
 
 def run(words: list[str | bytes], data: bytes = b"", **options) -> tuple[int, bytes, bytes]:
@@ -56,9 +56,19 @@ class Words(unittest.TestCase):
 
 class Input(unittest.TestCase):
     def test_no_capture(self) -> None:
-        for data in (b"", b"CHMCAP1\n", CAPTURE[:-1], CAPTURE + b"E", RESULT, bytes(MOST)):
+        for data, line in (
+            (b"", b"refused at 0: magic\n"),
+            (b"CHMCAP1\n", b"refused at 8: cut\n"),
+            (CAPTURE[:-1], b"refused at 127: cut\n"),
+            (CAPTURE + b"E", b"refused at 132: trailing\n"),
+            (CAPTURE[:126] + b"\2" + CAPTURE[127:], b"refused at 127: work\n"),
+            (CAPTURE[:8] + b"Q" + CAPTURE[9:], b"refused at 8: order\n"),
+            (CAPTURE[:8] + b"J" + CAPTURE[9:], b"refused at 8: device\n"),
+            (RESULT, b"refused at 0: magic\n"),
+            (bytes(MOST), b"refused at 0: magic\n"),
+        ):
             with self.subTest(length=len(data)):
-                self.assertEqual(run(["serial"], data), (5, b"", REFUSED))
+                self.assertEqual(run(["serial"], data), (5, b"", line))
 
     def test_too_long(self) -> None:
         self.assertEqual(run(["serial"], bytes(MOST + 1)), (7, b"", b"too long\n"))
@@ -148,129 +158,144 @@ class Memory(unittest.TestCase):
         self.assertEqual(seen, {2, 12})
 
 
-class Captures:
-    """Captures of the plain form, made at random."""
+API = b"/x-nmos/channelmapping/v1.0"
+ACTION = b'{"activation":{"mode":"activate_immediate"},"action":{"x":{"0":{"input":"a","channel_index":1}}}}'
 
-    def __init__(self, seed: int) -> None:
-        self.random = random.Random(seed)
-        self.frames = self.random.choice([1, 2, 3, 48])
-        wrap = (1 << 32) // self.frames
-        self.base = self.random.choice([0, 0, 1, wrap - 2, wrap // 2, 3 * wrap - 1, 1 << 40])
-        self.hold = self.random.choice([0, 0, 1, 2, 64])
-        self.inputs = [self.random.randint(1, 3) for _ in range(self.random.randint(0, 3))]
-        self.bits = [self.random.choice([16, 24]) for _ in self.inputs]
-        self.outputs = [self.random.randint(1, 3) for _ in range(self.random.randint(1, 3))]
 
-    def cell(self) -> bytes:
-        if not self.inputs or self.random.random() < 0.3:
-            return b"\xff\0"
-        source = self.random.randrange(len(self.inputs))
-        return bytes([source, self.random.randrange(self.inputs[source])])
+def post(body: bytes, length: int | None = None) -> bytes:
+    told = len(body) if length is None else length
+    return b"POST %s/map/activations HTTP/1.1\r\nContent-Length: %d\r\n\r\n%s" % (API, told, body)
 
-    def device(self) -> bytes:
-        body = (48000).to_bytes(4, "big") + self.frames.to_bytes(2, "big") + self.base.to_bytes(8, "big")
-        body += bytes([self.hold, len(self.inputs), len(self.outputs)])
-        for number, channels in enumerate(self.inputs):
-            body += bytes([1, ord("a") + number, channels, self.bits[number], 96, 1, 1])
-        for number, channels in enumerate(self.outputs):
-            body += bytes([1, ord("x") + number, channels, self.random.choice([16, 24]), 97])
-            body += self.random.randbytes(4) + b"\xff" + b"".join(self.cell() for _ in range(channels))
-        return model.record(b"D", body)
 
-    def frame(self, ticks: int) -> int:
-        """The first frame of a packet, from the session's first: near the session, or anywhere."""
-        if self.random.random() < 0.05:
-            return self.random.choice([-(1 << 31), (1 << 31) - 1, ticks * self.frames, self.random.randrange(1 << 32)])
-        if self.random.random() < 0.5:
-            return self.frames * self.random.randrange(-2, ticks + 2)
-        return self.random.randrange(-2 * self.frames - 1, (ticks + 1) * self.frames + 1)
+POST = post(ACTION)
 
-    def head(self, frame: int) -> bytes:
-        """A head, of which some have CSRCs, an extension, padding or a marker; without what follows the fixed part."""
-        first = 0x80 if self.random.random() < 0.7 else 0x80 | self.random.choice([0x01, 0x02, 0x10, 0x20, 0x31, 0x0F])
-        second = 0x60 if self.random.random() < 0.9 else self.random.choice([0xE0, 0x61])
-        timestamp = (self.base * self.frames + frame) % (1 << 32)
-        return bytes([first, second]) + self.random.randbytes(2) + timestamp.to_bytes(4, "big") + self.random.randbytes(4)
 
-    def around(self, head: bytes, payload: bytes) -> bytes:
-        """The packet of a head: what its first byte says stands around the payload."""
-        packet = head + self.random.randbytes(4 * (head[0] & 15))
-        if head[0] & 0x10:
-            words = self.random.randrange(3)
-            packet += self.random.randbytes(2) + words.to_bytes(2, "big") + self.random.randbytes(4 * words)
-        padding = self.random.randint(1, 5) if head[0] & 0x20 else 0
-        return packet + payload + self.random.randbytes(max(0, padding - 1)) + bytes([padding])[: min(padding, 1)]
+def get(target: bytes, *fields: bytes) -> bytes:
+    return b"".join([b"GET ", target, b" HTTP/1.1\r\n", *(one + b"\r\n" for one in fields), b"\r\n"])
 
-    def packet(self, source: int, ticks: int) -> bytes:
-        """A packet's record: most are of RTP and of whole frames, some cut, and some any bytes."""
-        count = self.frames if self.random.random() < 0.5 else self.random.randrange(3 * self.frames + 1)
-        payload = self.random.randbytes(count * self.inputs[source] * self.bits[source] // 8)
-        packet = self.around(self.head(self.frame(ticks)), payload)
-        chance = self.random.random()
-        if chance < 0.1:
-            packet = packet[: self.random.randrange(len(packet) + 1)]
-        elif chance < 0.15:
-            packet = self.random.randbytes(self.random.choice([0, 1, 11, 12, 16, 40, 2000]))
-        elif chance < 0.2:
-            place = self.random.randrange(min(20, len(packet)))
-            packet = packet[:place] + self.random.randbytes(1) + packet[place + 1 :]
-        return model.record(b"P", bytes([source]) + packet)
 
-    def activation(self) -> bytes:
-        outputs = sorted(self.random.sample(range(len(self.outputs)), self.random.randint(1, len(self.outputs))))
-        body = bytes([self.random.randrange(16), 0, len(outputs)])
-        for output in outputs:
-            count = self.random.randint(0, self.outputs[output])
-            channels = sorted(self.random.sample(range(self.outputs[output]), count))
-            body += bytes([output, count]) + b"".join(bytes([channel]) + self.cell() for channel in channels)
-        return model.record(b"A", body)
-
-    def records(self) -> list[bytes]:
-        """The records between the device and the last one."""
-        ticks = self.random.randint(0, 5)
-        claims = ticks * len(self.outputs)
-        records = [self.activation() for _ in range(self.random.randint(0, 4))]
-        while claims > 0:
-            part = self.random.randint(0, claims)
-            records.insert(self.random.randint(0, len(records)), model.record(b"T", part.to_bytes(4, "big")))
-            claims -= part
-        for source in range(len(self.inputs)):
-            for _ in range(self.random.randint(0, ticks + 3)):
-                records.insert(self.random.randint(0, len(records)), self.packet(source, ticks))
-        return records
-
-    def whole(self, records: list[bytes]) -> bytes:
-        return b"CHMCAP1\n" + self.device() + b"".join(records) + model.record(b"E", b"")
-
-    def damaged(self) -> bytes:
-        """A capture with a record twice, two records the other way round, or a byte changed, left out or put in."""
-        records = self.records()
-        if records and self.random.random() < 0.3:
-            records.insert(self.random.randint(0, len(records)), self.random.choice(records))
-            return self.whole(records)
-        if records and self.random.random() < 0.3:
-            one, other = self.random.randrange(len(records)), self.random.randrange(len(records))
-            records[one], records[other] = records[other], records[one]
-            return self.whole(records)
-        data = self.whole(records)
-        place = self.random.randrange(len(data))
-        byte = bytes([self.random.choice([0, 1, 2, 254, 255, data[place] ^ 1, self.random.randrange(256)])])
-        return data[:place] + self.random.choice([byte + data[place + 1 :], data[place + 1 :], byte + data[place:]])
+def limits_of_streams() -> dict[str, tuple[bytes, list[int]]]:
+    """Streams at each limit and one past it, with the statuses that docs/FORMATS-HTTP.md tells."""
+    deep, short = b"[" * 127 + b"]" * 127, get(b"/", b"x: ")
+    item = API + b"/map/activations/"
+    return {
+        "a head of 8192 bytes": (get(b"/", b"x: " + b"a" * (8192 - len(short))), [200]),
+        "a head of 8193 bytes": (get(b"/", b"x: " + b"a" * (8193 - len(short))), [431]),
+        "8192 bytes without an end": (b"GET / HTTP/1.1\r\nx: " + b"a" * 8173, [431]),
+        "8191 bytes without an end": (b"GET / HTTP/1.1\r\nx: " + b"a" * 8172, []),
+        "64 fields": (get(b"/", *[b"x: 1"] * 64), [200]),
+        "65 fields": (get(b"/", *[b"x: 1"] * 65), [400]),
+        "a body of 262144 bytes": (post(ACTION.ljust(262144)), [200]),
+        "a length of 262145": (post(b"", 262145), [413]),
+        "a long length": (post(b"", int("9" * 30)), [413]),
+        "a length with zeros": (get(b"/", b"Content-Length: 000") + get(b"/"), [200, 200]),
+        "two lengths": (get(b"/", b"Content-Length: 0", b"content-length: 0"), [400]),
+        "a length with a sign": (get(b"/", b"Content-Length: +1"), [400]),
+        "a length with a blank": (get(b"/", b"Content-Length: 1 1"), [400]),
+        "no digits": (get(b"/", b"Content-Length:"), [400]),
+        "a POST without length": (b"POST /zz HTTP/1.1\r\n\r\n", [411]),
+        "chunks": (get(b"/", b"transfer-encoding: chunked", b"Content-Length: x"), [411]),
+        "no request": (b"no request\r\n\r\n" + get(b"/"), [400]),
+        "JSON of 127 levels": (post(b'{"activation":%s}' % deep[1:-1]), [400]),
+        "JSON of 128 levels": (post(deep.join([b"[", b"]"])), [400]),
+        "no UTF-8": (post(b'"\xff"'), [400]),
+        "a lone surrogate": (post(b'"\\ud800"'), [400]),
+        "an empty body": (post(b""), [400]),
+        "an id of 0": (get(item + b"0"), [404]),
+        "an id with a zero in front": (get(item + b"01"), [404]),
+        "the greatest id": (get(item + b"18446744073709551615"), [404]),
+        "an id past it": (get(item + b"18446744073709551616"), [404]),
+        "slashes": (get(b"/") + get(b"//") + get(b"///") + get(API + b"/"), [200, 200, 404, 200]),
+        "a question": (get(b"?x") + get(b"/?x") + get(b"/x?"), [404, 200, 404]),
+        "no method of it": (b"PUT %s/inputs/zz HTTP/1.1\r\n\r\n" % API, [405]),
+        "a method in small letters": (b"get / HTTP/1.1\r\n\r\n", [405]),
+        "any path": (b"OPTIONS * HTTP/1.1\r\n\r\n", [200]),
+        "behind close": (get(b"/", b"CONNECTION: \t Close ") + get(b"/"), [200]),
+        "behind keep-alive": (get(b"/", b"Connection: close, x") + get(b"/"), [200, 200]),
+    }
 
 
 class Model(unittest.TestCase):
     """The program and the model agree, on captures and on damaged ones."""
 
     def check(self, data: bytes) -> bool:
+        """Whether the capture has a result, which is the model's."""
         try:
             expected = (0, model.result(data), b"")
-        except model.Refused:
-            expected = (5, b"", REFUSED)
+        except model.Refused as fault:
+            expected = (5, b"", fault.line())
         self.assertEqual(run(["serial"], data), expected, data.hex())
         return expected[0] == 0
 
+    def is_certain(self, data: bytes) -> bool:
+        """Compares where the pages leave nothing open."""
+        try:
+            self.check(data)
+        except model.Doubtful:
+            return False
+        return True
+
     def test_the_stored_run(self) -> None:
         self.assertEqual(model.result(CAPTURE), RESULT)
+
+    def test_a_full_table(self) -> None:
+        """Two base entries, and two of each activation: the last finds no place."""
+        activation = CAPTURE[100:118]
+        for count, refused in ((255, 0), (256, 1), (300, 45)):
+            with self.subTest(count=count):
+                data = CAPTURE[:65] + activation * count + CAPTURE[127:]
+                self.assertTrue(self.check(data))
+                self.assertEqual(model.result(data).count(b"\1\x17"), refused)
+
+    def test_the_stored_capture_cut_at_each_byte(self) -> None:
+        for length in range(len(CAPTURE)):
+            with self.subTest(length=length):
+                self.assertFalse(self.check(CAPTURE[:length]))
+
+    def test_each_tag_of_the_stored_capture_changed(self) -> None:
+        for place in (8, 65, 91, 100, 118, 127):
+            for tag in b"DJPQATECHR\0\xff":
+                with self.subTest(place=place, tag=tag):
+                    certain = self.is_certain(CAPTURE[:place] + bytes([tag]) + CAPTURE[place + 1 :])
+                    # taken for a piece of a stream, the bytes of another record may be doubtful
+                    self.assertTrue(certain or tag == ord("Q"))
+
+    def test_clients_of_the_control_api(self) -> None:
+        """Streams are cut over pieces, with claims and other clients between them."""
+        certain = 0
+        for seed in range(1500):
+            with self.subTest(seed=seed):
+                captures = HttpCaptures(seed)
+                certain += self.is_certain(captures.whole(captures.records()))
+        self.assertGreater(certain, 1200)
+
+    def statuses(self, pieces: list[bytes]) -> list[int]:
+        """The statuses of the responses to a stream in pieces, each behind a tick of claims."""
+        data = CAPTURE[:65]
+        for piece in pieces:
+            data += model.record(b"T", (2).to_bytes(4, "big"))
+            data += model.record(b"Q", b"\0" + piece)
+        data += model.record(b"E", b"")
+        self.assertTrue(self.check(data))
+        return [int(found) for found in re.findall(rb"HTTP/1\.1 (\d+)", model.result(data))]
+
+    def test_limits_of_streams(self) -> None:
+        for name, (data, statuses) in limits_of_streams().items():
+            with self.subTest(name=name):
+                self.assertEqual(self.statuses([data]), statuses)
+
+    def test_a_request_cut_before_each_byte(self) -> None:
+        data = b"\r\n" + POST + b"GET / HTTP/1.0\r\nA:b\r\n\r\n"
+        for place in range(len(data) + 1):
+            with self.subTest(place=place):
+                self.assertEqual(self.statuses([data[:place], data[place:]]), [200, 200])
+
+    def test_damaged_captures_of_the_control_api(self) -> None:
+        certain = 0
+        for seed in range(1000):
+            with self.subTest(seed=seed):
+                certain += self.is_certain(HttpCaptures(seed).damaged())
+        self.assertGreater(certain, 700)
 
     def test_captures_at_random(self) -> None:
         for seed in range(400):

@@ -127,8 +127,8 @@ class WorkedBytes(unittest.TestCase):
         self.assertEqual((CRATE / "args").read_text(), "serial\n")
 
     def test_worked_example_of_the_document(self) -> None:
-        text = (TOOLS.parent / "docs" / "FORMATS.md").read_text(encoding="utf-8")
-        _, capture, result = text[text.index("\n## A worked example") :].split("\n### The ")
+        text = (TOOLS.parent / "docs" / "EXAMPLE.md").read_text(encoding="utf-8")
+        _, capture, result = text.split("\n## The ")
         for part, data in ((capture, CAPTURE), (result, RESULT)):
             spelled = b""
             for at, digits in re.findall(r"^\| (\d+) \| `([0-9a-f ]+)` \|", part, re.MULTILINE):
@@ -203,8 +203,65 @@ class Records(unittest.TestCase):
     def test_text_records(self) -> None:
         self.assertEqual(line_of("J", "7b22c3bc223a317d0a", False), 'device   JSON {"ü":1}\\n')
         self.assertEqual(
-            line_of("Q", "03 474554202f20ff0d0a"), "stream   client 3, GET / \\xff\\r\\n"
+            line_of("Q", "03 474554202f20ff0d0a"), "stream   client 3, piece: GET / \\xff\\r\\n"
         )
+
+    def test_a_device_as_json(self) -> None:
+        text = """{"rate":48000,"frames":2,"hold":3,
+            "inputs":[{"id":"a","channels":[{"label":"L"}],"width":16,"payload_type":96,"block_size":1}],
+            "outputs":[{"id":"x","channels":[{"label":"1"},{"label":"2"}],"width":24,"payload_type":97,
+            "ssrc":7,"routable_inputs":["a",null],"map":[null,{"input":"a","channel_index":0}]}]}"""
+        lines = line_of("J", text.encode().hex(), False).splitlines()
+        self.assertEqual(
+            [line.strip() for line in lines],
+            [
+                "device   as JSON, 48000 Hz, 2 frames a tick, base 0, hold 3, 1 input, 1 output",
+                "input a: 1 channel, L16, type 96, block size 1, reordering",
+                "output x: 2 channels, L24, type 97, SSRC 7, routable a unrouted, "
+                "base row 0 <- unrouted, 1 <- a 0",
+            ],
+        )
+        view = View()
+        capture = CAPTURE_MAGIC + record("J", text.encode().hex()) + record("P", "00" + "80" * 11) + END
+        list(read(bytes.fromhex(capture), view))
+        self.assertEqual(view.device.outputs, [Port("x", 2, 24)])
+        self.assertEqual((view.device.rate, view.device.frames, view.device.base), (48000, 2, 0))
+
+    def test_a_device_as_json_that_says_no_lines(self) -> None:
+        for text in ("", "[]", "1", '{"rate":1,"frames":1,"inputs":[],"outputs":[{}]}', "\xff", '{"a":'):
+            with self.subTest(text=text):
+                shown = line_of("J", text.encode("latin-1").hex(), False)
+                self.assertEqual(shown, f"device   JSON {quoted(text.encode('latin-1'))}")
+
+    def test_requests_of_a_stream(self) -> None:
+        post = "POST /x HTTP/1.1\r\ncontent-length: 2 \r\nHost: y\r\n\r\n{}"
+        for text, words in {
+            "GET /a?b HTTP/1.1\r\n\r\n": "GET /a?b",
+            "GET /a HTTP/1.0\nHost: x\n\n": "GET /a",
+            post: "POST /x: {}",
+            post + post: "POST /x: {}; POST /x: {}",
+            post[:-1]: f"piece: {quoted(post[:-1].encode())}",
+            post + "G": f"piece: {quoted(post.encode())}G",
+            "": "piece: ",
+            "\r\n\r\n": "piece: \\r\\n\\r\\n",
+        }.items():
+            with self.subTest(text=text):
+                line = line_of("Q", "01" + text.encode().hex())
+                self.assertEqual(line.rstrip(), f"stream   client 1, {words}".rstrip())
+
+    def test_responses(self) -> None:
+        start = f"00 {1:016x} {0:016x} 00"
+        words = "reply    client 0, at 1 call and 0 claims, HTTP "
+        ok = "HTTP/1.1 200 OK\r\nContent-Length: 2\r\nConnection: keep-alive\r\n\r\n{}"
+        refused = "HTTP/1.1 405 No Method\r\nAllow: GET, OPTIONS\r\nConnection: close\r\n\r\n[\n]"
+        for text, shown in {
+            ok: "200 OK: {}",
+            refused: "405 No Method, allowed: GET, OPTIONS, closes: [\\n]",
+            "HTTP/1.1 204 No Content\r\n\r\n": "204 No Content",
+            "HTTP/1.1 204 No Content\r\n": "HTTP/1.1 204 No Content\\r\\n",
+        }.items():
+            with self.subTest(text=text):
+                self.assertEqual(line_of("R", start + text.encode().hex()), words + shown)
 
     def test_requests(self) -> None:
         at = "0000000000000009 00000001"

@@ -81,6 +81,32 @@ class Texts(unittest.TestCase):
         self.assertEqual(capture_of("\n".join(text_of(data))), data)
         self.assertEqual(data.count(b"\x80\x60"), 11)
 
+    def test_what_is_shown_of_examples_is_kept(self) -> None:
+        """Each capture is its text's, and the result the model's."""
+        for path in sorted((TOP / "examples").glob("*.shown")):
+            data = capture_of(path.with_suffix(".txt").read_text("utf-8"))
+            with self.subTest(path=path.name), tempfile.TemporaryDirectory() as folder:
+                files = [pathlib.Path(folder) / name for name in ("capture", "result")]
+                files[0].write_bytes(data)
+                files[1].write_bytes(model.result(data))
+                status, shown, err = run("show", *map(str, files))
+                self.assertEqual((status, err), (0, ""))
+                self.assertEqual(shown, path.read_bytes())
+
+    def test_a_device_as_json(self) -> None:
+        device = '{"rate":1,"frames":2,"inputs":[{"id":"a","channels":[{"label":"# 1"}],"width":16,'
+        device += '"payload_type":99}],"outputs":[]}'
+        one_line = f"capture\ndevice JSON {device}\npacket input a, tick 1: silence\n"
+        data = capture_of(one_line)
+        self.assertEqual(data[8:13], b"J" + len(device).to_bytes(4, "big"))
+        self.assertEqual(data[13 : 13 + len(device)].decode(), device)
+        self.assertIn(bytes.fromhex("50 00000011 00 8063 0001 00000002 00000001 00000000"), data)
+        parts = device.replace(",", ",|").split("|")
+        lines = "capture\ndevice JSON\n" + "".join(f"  {part}\n" for part in parts)
+        several = capture_of(lines + "packet input a, tick 1: silence\n")
+        self.assertEqual(several[-27:], data[-27:])
+        self.assertIn("\n".join(parts).encode(), several)
+
     def test_comments(self) -> None:
         text = "# before\n#\n" + DEVICE + "work 1 claim # one\n  # behind\npacket #0, ticks 1\n"
         with self.assertRaisesRegex(TextFault, "line 10: '#0' is no field of a packet"):
@@ -116,6 +142,12 @@ end
             "request client 1, reading of the active map": "41000000020104",
             "request client 1, reading of the pending activations": "41000000020105",
             "stream client 1, GET / HTTP/1.1\\r\\n\\xff\\\\": "5100000013" "01" + b"GET / HTTP/1.1\r\n\xff\\".hex(),
+            "http client 1, GET map": "5100000040" "01"
+            + b"GET /x-nmos/channelmapping/v1.0/map HTTP/1.1\r\nHost: chanmap\r\n\r\n".hex(),
+            "http client 1, GET /x, close": "5100000036" "01"
+            + b"GET /x HTTP/1.1\r\nHost: chanmap\r\nConnection: close\r\n\r\n".hex(),
+            "http client 1, POST /x: {} # b": "510000003d" "01"
+            + b"POST /x HTTP/1.1\r\nHost: chanmap\r\nContent-Length: 6\r\n\r\n{} # b".hex(),
             "work 258 claims": "540000000400000102",
         }.items():
             with self.subTest(line=line):
@@ -209,6 +241,23 @@ class Diff(unittest.TestCase):
                 self.assertEqual(self.told(other), (1, words))
         self.assertEqual(self.told(RESULT[:8] + RESULT[-5:])[1], f"{start} 1: claim and end")
         self.assertEqual(self.told(RESULT + RESULT)[1], f"{start} 10: only the second has it")
+
+    def test_differences_of_responses(self) -> None:
+        data = model.result(capture_of((TOP / "examples" / "http_clients.txt").read_text("utf-8")))
+        for old, new, words in (
+            (b"1 423 Locked", b"1 424 Locked", "status: 423 and 424"),
+            (b"Connection: keep-alive", b"Connection: close", "closes: no and yes"),
+            (b'"output locked"', b'"output lacked"', '"output locked"} and {"code":423'),
+            (b"Origin: *", b"Origin: +", "text: HTTP/1.1 200 OK"),
+        ):
+            with self.subTest(new=new):
+                front, _, behind = data.partition(old)
+                at = front.rindex(b"R\0\0") + 1  # the length of the reply's record
+                length = int.from_bytes(front[at : at + 4], "big") + len(new) - len(old)
+                other = front[:at] + length.to_bytes(4, "big") + front[at + 4 :] + new + behind
+                status, line = self.told(other, data, device=False)
+                self.assertEqual(status, 1)
+                self.assertIn(words, line)
 
     def test_each_change_of_a_byte_is_told(self) -> None:
         for at in range(0, len(RESULT), 7):
