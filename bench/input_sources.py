@@ -95,25 +95,27 @@ impl Running {
     fn read_all(&mut self) -> i32 {
         let mut last = 0;
         for tick in 0..TICKS {
-            last = self.read_tick(tick);
+            last = read_tick(&self.table, &mut self.reader, tick);
         }
         last
     }
+}
 
-    /// Reads the samples of a tick whose block is there.
-    fn read_tick(&mut self, tick: u64) -> i32 {
-        let table = &self.table;
-        if table.inputs() == 0 || !table.has_tick(0, tick) || !self.reader.look(table, 0, tick) {
-            return 0;
-        }
-        let mut last = 0;
-        for frame in 0..FRAMES {
-            if table.has_frame(0, frame) && table.has_channel(0, CHANNELS - 1) {
-                last = read_frame(table, &mut self.reader, tick, frame);
-            }
-        }
-        last
+/// Reads the samples of a tick, where its block is there.
+fn read_tick(table: &InputTable, reader: &mut ReadPass, tick: u64) -> i32
+    requires reads { IsReadOf table.now reader.old }
+    ensures reads { IsReadOf table.now reader.new }
+{
+    if table.inputs() == 0 || !table.has_tick(0, tick) || !reader.look(table, 0, tick) {
+        return 0;
     }
+    let mut last = 0;
+    for frame in 0..FRAMES {
+        if table.has_frame(0, frame) && table.has_channel(0, CHANNELS - 1) {
+            last = read_frame(table, reader, tick, frame);
+        }
+    }
+    last
 }
 
 /// Reads the samples of a frame.
@@ -208,23 +210,23 @@ fewer_channels : (table : List InputFace) (channel : ℕ) → channel < 64 → H
 fewer_channels [] channel few h = h
 fewer_channels (t ∷ ts) channel few h = omega arith
 
-pub sample-requires-clause-channel : goal.sample-requires-clause-channel
-sample-requires-clause-channel c = fewer_channels c.args.table.now c.loop-channel.channel c.loop-channel-test.true c.requires.channels
+pub sample-last-requires-clause-channel : goal.sample-last-requires-clause-channel
+sample-last-requires-clause-channel c = fewer_channels c.args.table.now c.loop-channel.channel c.loop-channel-test.true c.requires.channels
 
 pub loop-channel-preserved : goal.loop-channel-preserved
 loop-channel-preserved c = record {
-  reads = c.sample.ensures.pass;
-  seen = keeps_seen _ _ c.sample.ensures.grows 0 c.args.tick c.loop-channel.invariant.seen;
+  reads = c.sample-last.ensures.pass;
+  seen = keeps_seen _ _ c.sample-last.ensures.grows 0 c.args.tick c.loop-channel.invariant.seen;
 }
 """,
-        "Running/read_tick/Invariants.antt": """use Rattle.input_rule.specs.Views.{HasSeen}
+        "read_tick/Invariants.antt": """use Rattle.input_rule.specs.Views.{HasSeen}
 use Rattle.input_cells.specs.Faces.{HasView, IsReadOf}
-use Rattle.measure.proofs.input_tables.Running.read_tick.Given as goal
+use Rattle.measure.proofs.input_tables.read_tick.Given as goal
 
 abbrev pub invariant-loop-frame : goal.invariant-loop-frame
 invariant-loop-frame l = record {
-  reads : IsReadOf l.fn.self.table l.self.reader;
-  seen : HasView l.self.reader 0 (λ v. HasSeen v l.fn.tick);
+  reads : IsReadOf l.fn.table l.reader;
+  seen : HasView l.reader 0 (λ v. HasSeen v l.fn.tick);
 }
 """,
     },
@@ -234,7 +236,7 @@ invariant-loop-frame l = record {
 def inputs() -> Measurement:
     """A start of the largest table, and what a sample takes to be set and to be read, on one thread."""
     return Measurement(
-        crates="io_caps input_cells",
+        crates="io_caps input_rule input_cells",
         modules=[DEVICE, TABLES],
         cases=[
             ("start of the largest input table", "input_tables::starts(&rt, alloc)"),
