@@ -1,22 +1,23 @@
 -- Heads in the held bytes and in their window.
-use Rattle.std.proofs.Common.{◌≡◌, ℕ, ◌+◌, ◌-◌, ◌<◌, ◌≤◌, Bool, true}
+use Rattle.std.proofs.Common.{◌≡◌, ℕ, zero, suc, ◌+◌, ◌-◌, ◌<◌, ◌≤◌, Bool, true, IsTrue}
 use Rattle.std.proofs.Common.{false, ◌||◌, ◌==◌, List, [], ◌∷◌, ◌++◌, length}
 use Rattle.std.proofs.Common.{take, drop, refl, sym, ap, ◌∙◌, subst, arith}
 use Rattle.std.proofs.Common.{inl, inr, append_assoc, append-nil, take_all, take-append-drop, length-take, true≢false}
 use Rattle.std.proofs.Math.Seq.{take-append-add, drop-append_seam}
 use Rattle.std.proofs.lemmas.Bool.Decides.{nat_tests}
-use Rattle.std.proofs.lemmas.List.{length-map}
+use Rattle.std.proofs.lemmas.List.{length-map, take-append-le}
 use Rattle.std.proofs.lemmas.List.Elements.{All-head, All-tail}
 use Rattle.std.specs.List.{list_any}
 use Rattle.httparse.specs.Grammar.{is_token_byte, is_uri_byte, AllPass, LineEnd, crlf, lf, print_blank}
 use Rattle.httparse.specs.Grammar.{RequestHead, ReadsRequest, HasNoRequest, MayBecomeRequest, EndsInTarget, print_request}
 use Rattle.httparse.specs.Pieces.{is_newline, Stops}
-use Rattle.httparse.specs.Spans.{IsRequestAt, IsRequestWithin, RequestOverflows, header_bytes, name_and_value}
+use Rattle.httparse.specs.Spans.{IsRequestAt, IsRequestWithin, header_bytes, name_and_value}
 use Rattle.httparse.specs.declared.spans.HeaderSpan.{HeaderSpan}
 use Rattle.httparse.specs.declared.spans.RequestSpans.{RequestSpans}
 use Rattle.httparse.proofs.GrammarLemmas.{ReadsRequest-append}
 use Rattle.httparse.proofs.PieceLemmas.{Stops_token}
-use Rattle.http_wire.specs.Head.{window, IsFit, IsDoubtful, IsOpen, skip_newlines, has_line}
+use Rattle.http_wire.specs.Head.{window, IsFit, IsDoubtful, IsHopeless, IsOpen, CanBecomeHead, IsRefusedHead, skip_newlines, has_line}
+use Rattle.http_wire.specs.declared.status.TheConstants.{BAD_REQUEST, FIELDS_TOO_LARGE}
 use Rattle.http_wire.specs.declared.limits.TheConstants.{MOST_HEAD, MOST_FIELDS}
 
 pub window_short : (held : List ℕ) → length held < MOST_HEAD → window held ≡ held
@@ -55,7 +56,7 @@ fit_at held headers spans h room inside at =
     record { reads = rw rest reads; fields = count; size = size }
 
 -- no bytes behind them make a fit head
-pub doubtful : (held : List ℕ) → RequestOverflows MOST_FIELDS (window held) → IsDoubtful held
+pub doubtful : (held : List ℕ) → IsHopeless (window held) → IsDoubtful held
 doubtful held over more b =
     let split : window held ++ (drop MOST_HEAD held ++ more) ≡ held ++ more =
     sym (append_assoc (window held) (drop MOST_HEAD held) more) ∙ ap (λ (s : List ℕ). s ++ more) (take-append-drop MOST_HEAD held) in
@@ -63,6 +64,37 @@ doubtful held over more b =
     let many = over (drop MOST_HEAD held ++ more) b.0 b.1 reads in
     let few = b.2.fields in
     absurd (omega arith)
+
+take_front : (n : ℕ) (held more : List ℕ) → (later : List ℕ) × (take n (held ++ more) ≡ take n held ++ later)
+take_front zero held more = ([], refl)
+take_front (suc n) [] more = (take (suc n) more, refl)
+take_front (suc n) (b ∷ held) more =
+    let front = take_front n held more in
+    (front.0, ap (λ (s : List ℕ). b ∷ s) front.1)
+
+-- more bytes give no hope
+pub hopeless_append : (held more : List ℕ) → IsHopeless (window held) → IsHopeless (window (held ++ more))
+hopeless_append held more none later h rest reads =
+    let front = take_front MOST_HEAD held more in
+    let text = ap (λ (s : List ℕ). s ++ later) front.1 ∙ append_assoc (window held) front.0 later in
+    none (front.0 ++ later) h rest (subst (λ (s : List ℕ). ReadsRequest s h rest) text reads)
+
+-- as many bytes as a head has at most, and no head
+large_doubtful : (held : List ℕ) → MOST_HEAD ≤ length held → HasNoRequest (window held) → IsDoubtful held
+large_doubtful held many none more b =
+    let found = in_window (held ++ more) b.0 b.1 b.2 in
+    none b.0 found.0 (subst (λ (s : List ℕ). ReadsRequest s b.0 found.0) (take-append-le MOST_HEAD held more many) found.1)
+
+pub refused_doubtful : (held : List ℕ) (status : ℕ) → IsRefusedHead held status → IsDoubtful held
+refused_doubtful held status (inl bad) = doubtful held bad.1
+refused_doubtful held status (inr large) = large_doubtful held large.1 large.2.0
+
+-- what both statuses tell of bytes that have a line
+pub told_apart : (held : List ℕ) → IsTrue (has_line (window held)) → IsRefusedHead held BAD_REQUEST → IsRefusedHead held FIELDS_TOO_LARGE
+    → CanBecomeHead (window held) × IsHopeless (window held)
+told_apart held line (inr large) second = absurd (omega (arith, large.0))
+told_apart held line (inl bad) (inl other) = absurd (omega (arith, other.0))
+told_apart held line (inl bad) (inr large) = (large.2.1 line, bad.1)
 
 -- ---- a target that goes on has no line
 

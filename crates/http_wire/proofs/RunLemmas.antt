@@ -4,13 +4,14 @@ use Rattle.std.proofs.Common.{subst, arith, append_assoc, append-nil, inl, inr, 
 use Rattle.std.proofs.lemmas.List.{take-append-le}
 use Rattle.httparse.specs.Grammar.{RequestHead}
 use Rattle.httparse.proofs.GrammarLemmas.{ReadsRequest-append}
-use Rattle.http_wire.specs.Head.{window, IsFit, BeginsFit, IsOpen}
+use Rattle.http_wire.specs.Head.{window, IsFit, IsOpen}
 use Rattle.http_wire.specs.Stream.{BeginsWith, IsRefused, IsShort, Stand, holds, ended, fed, Steps}
 use Rattle.http_wire.specs.Stream.{Answer, whole, refused, answers_of, GoesOn, IsAnswered, FeedsOn, AnswersOn}
 use Rattle.http_wire.specs.declared.limits.TheConstants.{MOST_HEAD}
 use Rattle.http_wire.specs.declared.request.HttpRequest.{HttpRequest}
 use Rattle.http_wire.specs.declared.stream.Next.{Next}
 use Rattle.http_wire.specs.declared.stream.Next.TheVariants as next
+use Rattle.http_wire.proofs.HeadLemmas.{hopeless_append}
 
 -- ---- more bytes change no answer that was given
 
@@ -29,7 +30,7 @@ begins_append bytes request rest more b = record {
 
 refused_append : (bytes more : List ℕ) (status : ℕ) → IsRefused bytes status → IsRefused (bytes ++ more) status
 refused_append bytes more status (inr by) = inr (by.0, by.1 ++ more, fit_append bytes by.0 by.1 more by.2, by.3)
-refused_append bytes more status (inl (inl bad)) = inl (inl (bad.0, (λ later b. bad.1 (more ++ later) (subst BeginsFit (append_assoc bytes more later) b))))
+refused_append bytes more status (inl (inl bad)) = inl (inl (bad.0, hopeless_append bytes more bad.1))
 refused_append bytes more status (inl (inr large)) =
     let same : window (bytes ++ more) ≡ window bytes = take-append-le MOST_HEAD bytes more large.1 in
     inl (inr (large.0, omega (arith, large.1, length-append bytes more), subst IsOpen (sym same) large.2))

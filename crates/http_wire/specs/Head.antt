@@ -24,6 +24,11 @@ BeginsFit bytes = (h : RequestHead) × (rest : List ℕ) × IsFit bytes h rest
 abbrev pub IsDoubtful : List ℕ → Type 0
 IsDoubtful bytes = (more : List ℕ) → ¬ (BeginsFit (bytes ++ more))
 
+-- whatever bytes follow (or none), they begin with no head of few enough fields, whatever its size
+abbrev pub IsHopeless : List ℕ → Type 0
+IsHopeless bytes = (more : List ℕ) (h : RequestHead) (rest : List ℕ)
+    → ReadsRequest (bytes ++ more) h rest → MOST_FIELDS < length h.fields
+
 -- some bytes can follow that make a head of any size
 abbrev pub CanBecomeHead : List ℕ → Type 0
 CanBecomeHead bytes = (more : List ℕ) × (h : RequestHead) × ReadsRequest (bytes ++ more) h []
@@ -49,9 +54,22 @@ window bytes = take MOST_HEAD bytes
 abbrev pub IsAwaited : List ℕ → Type 0
 IsAwaited bytes = (length bytes < MOST_HEAD) × IsOpen bytes
 
--- The statuses with which a head is refused. A doubtful head may be refused at any time, or be
--- awaited while it is open.
+-- The statuses with which a head is refused. It is bad where its window is hopeless, and too large
+-- where the window is full and open. Both are allowed just where the window is all three: then it
+-- holds no whole line, or can become heads with too many fields alone. While the window is hopeless
+-- and open and not full, the head may also be awaited.
 abbrev pub IsRefusedHead : List ℕ → ℕ → Type 0
 IsRefusedHead bytes status =
-    ((status ≡ BAD_REQUEST) × IsDoubtful bytes)
+    ((status ≡ BAD_REQUEST) × IsHopeless (window bytes))
     ⊎ ((status ≡ FIELDS_TOO_LARGE) × (MOST_HEAD ≤ length bytes) × IsOpen (window bytes))
+
+-- a head is refused only where none within its limits can come
+abbrev pub RefusesDoubtful : Type 0
+RefusesDoubtful = (bytes : List ℕ) (status : ℕ) → IsRefusedHead bytes status → IsDoubtful bytes
+
+-- once a line has come, both statuses are allowed only where the window can become a head, but none
+-- of few enough fields
+abbrev pub TellsApart : Type 0
+TellsApart = (bytes : List ℕ) → IsTrue (has_line (window bytes))
+    → IsRefusedHead bytes BAD_REQUEST → IsRefusedHead bytes FIELDS_TOO_LARGE
+    → CanBecomeHead (window bytes) × IsHopeless (window bytes)

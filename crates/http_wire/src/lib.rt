@@ -6,6 +6,7 @@ mod fields;
 mod head;
 mod held;
 mod known;
+pub mod laws;
 pub mod limits;
 mod line;
 mod request;

@@ -171,6 +171,44 @@ fn longest_heads(rt: HostRuntime) -> Result<(), Fail> {
     Ok(())
 }
 
+/// The answer to so many bytes that begin so, and go on with a letter.
+fn answer_to_endless(alloc: Global, front: &[u8], len: usize) -> Result<u16, NoMemory> {
+    let letters = repeat(alloc, "a", len.saturating_sub(front.len()))?;
+    let mut bytes = Vec::from_slice(alloc, front)?;
+    bytes.extend_from_slice(letters.as_slice())?;
+    Ok(number_of(&first_answer(alloc, bytes.as_slice())?))
+}
+
+#[test]
+fn heads_without_end(rt: HostRuntime) -> Result<(), Fail> {
+    let alloc = rt.alloc();
+    for (front, len, want) in [
+        ("GET / HTTP/1.1\r\nA: ", 8191, 0),
+        ("GET / HTTP/1.1\r\nA: ", 8192, 431),
+        ("GET / HTTP/1.1\r\nA: ", 8193, 431),
+        ("GET /", 8192, 431),
+        ("GET / HTTP/2.0\r\nA: ", 8192, 400),
+        ("GET /\r\nA: ", 8193, 400),
+    ] {
+        let answer = answer_to_endless(alloc, front.as_bytes(), len)?;
+        assert_eq!(rt; answer, want, "{len} {front}");
+    }
+    Ok(())
+}
+
+#[test]
+fn many_fields_without_end(rt: HostRuntime) -> Result<(), Fail> {
+    let alloc = rt.alloc();
+    for (fields, end, want) in [(63, "a: ", 431), (65, "a: ", 400), (65, "\r\n", 400)] {
+        let mut front = join(alloc, &["GET / HTTP/1.1\r\n"])?;
+        front.extend_from_slice(repeat(alloc, "a: b\r\n", fields)?.as_slice())?;
+        front.extend_from_slice(end.as_bytes())?;
+        let answer = answer_to_endless(alloc, front.as_slice(), 8192)?;
+        assert_eq!(rt; answer, want, "{fields} {end}");
+    }
+    Ok(())
+}
+
 #[test]
 fn longest_body(rt: HostRuntime) -> Result<(), Fail> {
     let alloc = rt.alloc();

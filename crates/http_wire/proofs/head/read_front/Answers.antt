@@ -1,7 +1,7 @@
 use Rattle.std.proofs.Common.{inl, inr, refl, ◌≡◌, arith, length, subst}
 use Rattle.http_wire.specs.Head.{window, IsOpen}
 use Rattle.http_wire.specs.declared.limits.TheConstants.{MOST_FIELDS}
-use Rattle.http_wire.proofs.HeadLemmas.{window_short, fit_at, doubtful, open_of}
+use Rattle.http_wire.proofs.HeadLemmas.{window_short, fit_at, open_of}
 use Rattle.http_wire.proofs.FoundLemmas.{begins_with_head}
 use Rattle.http_wire.proofs.head.read_front.Goals as goal
 
@@ -36,4 +36,4 @@ returns-else-bytes-lt-MOST_HEAD c =
     inl (inr (refl, omega (arith, c.if-bytes-lt-MOST_HEAD.false), open_of (window c.args.bytes.now) none may))
 
 pub returns-in-Err : goal.returns-in-Err
-returns-in-Err c = inl (inl (refl, doubtful c.args.bytes.now (rw c.window_of-window.ensures at c.in-Err.ensures.no_room)))
+returns-in-Err c = inl (inl (refl, rw c.window_of-window.ensures at c.in-Err.ensures.no_room))
