@@ -1,5 +1,7 @@
 -- What a book keeps, after an accepted call.
-use Rattle.std.proofs.Common.{◌≡◌, ℕ, ◌+◌, ◌*◌, ◌≤◌, false, List, [], ◌∷◌, ◌++◌, length, map, Option, None, refl, sym, ap, ◌∙◌, subst, arith, length-append, Bool, true}
+use Rattle.std.proofs.Common.{◌≡◌, ℕ, ◌+◌, ◌*◌, ◌≤◌, false, List, [], ◌∷◌, ◌++◌, length, map}
+use Rattle.std.proofs.Common.{Option, None, refl, sym, ap, ◌∙◌, subst, arith, length-append, Bool}
+use Rattle.std.proofs.Common.{true}
 use Rattle.std.specs.Prelude.{cond, nat_lt, option_map, All}
 use Rattle.std.specs.Option.{option_map_or, option_to_list}
 use Rattle.std.proofs.lemmas.Bool.{false_from_ne_true, false≢true}
@@ -40,58 +42,96 @@ pub has_outputs : (s : SetupParts) → IsSetup s → HasOutputs s
 has_outputs s checked = omega (arith, checked.device.bounds.some_output)
 
 -- what a book that has looked keeps to at these claims
-pub legal_at : (s : SetupParts) (claims : ℕ) (entries : List Entry) (p : KeptParts) → IsDesk s claims entries p → IsLegalJournal s claims p.journal
+pub legal_at : (s : SetupParts) (claims : ℕ) (entries : List Entry) (p : KeptParts)
+    → IsDesk s claims entries p
+    → IsLegalJournal s claims p.journal
 legal_at s claims entries p desk = legal_later s p.seen claims p.journal desk.looked desk.legal
 
-pub since_at : (s : SetupParts) (claims : ℕ) (entries : List Entry) (p : KeptParts) → IsDesk s claims entries p → p.from ≤ claims
+pub since_at : (s : SetupParts) (claims : ℕ) (entries : List Entry) (p : KeptParts)
+    → IsDesk s claims entries p
+    → p.from ≤ claims
 since_at s claims entries p desk = omega (arith, desk.since, desk.looked)
 
-pub pending_at : (s : SetupParts) (claims : ℕ) (entries : List Entry) (p : KeptParts) → IsDesk s claims entries p → p.seen ≡ claims → p.pending ≡ map item_of (pending_of s p.journal claims)
-pending_at s claims entries p desk at = desk.pending_are ∙ ap (λ (c : ℕ). map item_of (pending_of s p.journal c)) at
+pub pending_at : (s : SetupParts) (claims : ℕ) (entries : List Entry) (p : KeptParts)
+    → IsDesk s claims entries p → p.seen ≡ claims
+    → p.pending ≡ map item_of (pending_of s p.journal claims)
+pending_at s claims entries p desk at =
+    desk.pending_are ∙ ap (λ (c : ℕ). map item_of (pending_of s p.journal c)) at
 
-pub last_at : (s : SetupParts) (claims : ℕ) (entries : List Entry) (p : KeptParts) → IsDesk s claims entries p → p.seen ≡ claims → p.last ≡ option_map shown (last_of s p.journal claims)
-last_at s claims entries p desk at = desk.last_is ∙ ap (λ (c : ℕ). option_map shown (last_of s p.journal c)) at
+pub last_at : (s : SetupParts) (claims : ℕ) (entries : List Entry) (p : KeptParts)
+    → IsDesk s claims entries p → p.seen ≡ claims
+    → p.last ≡ option_map shown (last_of s p.journal claims)
+last_at s claims entries p desk at =
+    desk.last_is ∙ ap (λ (c : ℕ). option_map shown (last_of s p.journal c)) at
 
-pub entries_since : (s : SetupParts) (claims since : ℕ) (entries : List Entry) (p : KeptParts) → IsDesk s claims entries p → begin s p.from ≤ since → AreEntries s since entries
+pub entries_since : (s : SetupParts) (claims since : ℕ) (entries : List Entry) (p : KeptParts)
+    → IsDesk s claims entries p → begin s p.from ≤ since
+    → AreEntries s since entries
 entries_since s claims since entries p desk low = record {
   rows = desk.rows;
   timely = desk.timely;
-  cover = λ o t there le. subst IsSome (sym (desk.alike o t there (omega (arith, low, le)))) ((entries_are s p.seen p.journal desk.setup (has_outputs s desk.setup) desk.legal).cover o t there (omega (arith, low, le)));
+  cover = λ o t there le. subst IsSome (sym (desk.alike o t there (omega (arith, low, le))))
+      ((entries_are s p.seen p.journal desk.setup (has_outputs s desk.setup) desk.legal).cover o t
+      there (omega (arith, low, le)));
 }
 
 -- the entries of a legal journal, from a tick on
-pub entries_at : (s : SetupParts) (claims tick : ℕ) (journal : List JournalCall) → IsSetup s → IsLegalJournal s claims journal → s.device.base ≤ tick → AreEntries s tick (entries_of s journal)
+pub entries_at : (s : SetupParts) (claims tick : ℕ) (journal : List JournalCall) → IsSetup s
+    → IsLegalJournal s claims journal → s.device.base ≤ tick
+    → AreEntries s tick (entries_of s journal)
 entries_at s claims tick journal is legal low =
     let whole = entries_are s claims journal is (has_outputs s is) legal in
-    record { rows = whole.rows; timely = whole.timely; cover = λ o t there le. whole.cover o t there (omega (arith, low, le)) }
+    record {
+      rows = whole.rows;
+      timely = whole.timely;
+      cover = λ o t there le. whole.cover o t there (omega (arith, low, le));
+    }
 
-pub desk_entries : (s : SetupParts) (claims : ℕ) (entries : List Entry) (p : KeptParts) → IsDesk s claims entries p → AreEntries s (begin s claims) entries
-desk_entries s claims entries p desk = entries_since s claims (begin s claims) entries p desk (begin_rises s p.from claims (has_outputs s desk.setup) (since_at s claims entries p desk))
+pub desk_entries : (s : SetupParts) (claims : ℕ) (entries : List Entry) (p : KeptParts)
+    → IsDesk s claims entries p
+    → AreEntries s (begin s claims) entries
+desk_entries s claims entries p desk =
+    entries_since s claims (begin s claims) entries p desk
+    (begin_rises s p.from claims (has_outputs s desk.setup) (since_at s claims entries p desk))
 
 -- ---- an accepted activation
 
-reply_free : (s : SetupParts) (journal : List JournalCall) (claims : ℕ) (when : When) (action : List OutputChangeParts) → refusal_of s journal claims when action ≡ None
-    → reply_of s journal claims (Activate when action) ≡ accepted when (next_id journal) (landing_tick s claims when)
+reply_free : (s : SetupParts) (journal : List JournalCall) (claims : ℕ) (when : When)
+    (action : List OutputChangeParts) → refusal_of s journal claims when action ≡ None
+    → reply_of s journal claims (Activate when action)
+    ≡ accepted when (next_id journal) (landing_tick s claims when)
 unfolding reply_of
-reply_free s journal claims when action free = ap (λ (r : Option Refusal). option_map_or Refused r (accepted when (next_id journal) (landing_tick s claims when))) free
+reply_free s journal claims when action free =
+    ap (λ (r : Option Refusal).
+    option_map_or Refused r (accepted when (next_id journal) (landing_tick s claims when))) free
 
-pub record IsNew (s : SetupParts) (claims client : ℕ) (journal : List JournalCall) (request : Request) (when : When) (action : List OutputChangeParts) (id tick : ℕ) : Type 0 where
+pub record IsNew (s : SetupParts) (claims client : ℕ) (journal : List JournalCall)
+    (request : Request) (when : When) (action : List OutputChangeParts) (id tick : ℕ) : Type 0 where
   pub asks : request ≡ Activate when action
   pub free : refusal_of s journal claims when action ≡ None
   pub id_is : id ≡ next_id journal
   pub lands : tick ≡ landing_tick s claims when
 
-pub new_reply : (s : SetupParts) (claims client : ℕ) (journal : List JournalCall) (request : Request) (when : When) (action : List OutputChangeParts) (id tick : ℕ) → IsNew s claims client journal request when action id tick
+pub new_reply : (s : SetupParts) (claims client : ℕ) (journal : List JournalCall)
+    (request : Request) (when : When) (action : List OutputChangeParts) (id tick : ℕ)
+    → IsNew s claims client journal request when action id tick
     → reply_of s journal claims request ≡ accepted when id tick
-new_reply s claims client journal request when action id tick is = rw (is.asks, is.id_is, is.lands) (reply_free s journal claims when action is.free)
+new_reply s claims client journal request when action id tick is =
+    rw (is.asks, is.id_is, is.lands) (reply_free s journal claims when action is.free)
 
-new_accepted : (s : SetupParts) (claims client : ℕ) (journal : List JournalCall) (request : Request) (when : When) (action : List OutputChangeParts) (id tick : ℕ) → IsNew s claims client journal request when action id tick
+new_accepted : (s : SetupParts) (claims client : ℕ) (journal : List JournalCall) (request : Request)
+    (when : When) (action : List OutputChangeParts) (id tick : ℕ)
+    → IsNew s claims client journal request when action id tick
     → IsAccepted s journal (journal_call claims client id tick request)
 new_accepted s claims client journal request when action id tick is =
-    ap (call_of s journal client claims request) (new_reply s claims client journal request when action id tick is) ∙ called s journal client claims request when id tick
+    ap (call_of s journal client claims request)
+    (new_reply s claims client journal request when action id tick is)
+    ∙ called s journal client claims request when id tick
 
-item_places : (key id tick : ℕ) (when : When) (action : List OutputChangeParts) (b : Bool) → nat_lt key tick ≡ b → (is_later when ≡ false → b ≡ false)
-    → length action + places_kept (option_to_list (item_above key id when tick action)) ≤ places_each when * length action
+item_places : (key id tick : ℕ) (when : When) (action : List OutputChangeParts) (b : Bool)
+    → nat_lt key tick ≡ b → (is_later when ≡ false → b ≡ false)
+    → length action + places_kept (option_to_list (item_above key id when tick action))
+    ≤ places_each when * length action
 item_places key id tick Now action true is none = absurd (false≢true (sym (none refl)))
 item_places key id tick Now action false is none = rw is (omega arith)
 item_places key id tick (At x) action true is none = rw is (omega arith)
@@ -99,43 +139,105 @@ item_places key id tick (At x) action false is none = rw is (omega arith)
 item_places key id tick (After x) action true is none = rw is (omega arith)
 item_places key id tick (After x) action false is none = rw is (omega arith)
 
-pub at_seen : (s : SetupParts) (call : JournalCall) (journal : List JournalCall) (new : KeptParts) → {claims : ℕ} → new.seen ≡ claims → new.journal ≡ journal ++ call ∷ []
-    → map item_of (pending_of s new.journal new.seen) ≡ map item_of (pending_of s (journal ++ call ∷ []) claims)
-at_seen s call journal new seen is = ap (λ (j : List JournalCall). map item_of (pending_of s j new.seen)) is ∙ ap (λ (c : ℕ). map item_of (pending_of s (journal ++ call ∷ []) c)) seen
+pub at_seen : (s : SetupParts) (call : JournalCall) (journal : List JournalCall) (new : KeptParts)
+    → {claims : ℕ} → new.seen ≡ claims → new.journal ≡ journal ++ call ∷ []
+    → map item_of (pending_of s new.journal new.seen)
+    ≡ map item_of (pending_of s (journal ++ call ∷ []) claims)
+at_seen s call journal new seen is =
+    ap (λ (j : List JournalCall). map item_of (pending_of s j new.seen)) is
+    ∙ ap (λ (c : ℕ). map item_of (pending_of s (journal ++ call ∷ []) c)) seen
 
-pub last_seen : (s : SetupParts) (call : JournalCall) (journal : List JournalCall) (new : KeptParts) → {claims : ℕ} → new.seen ≡ claims → new.journal ≡ journal ++ call ∷ []
-    → option_map shown (last_of s new.journal new.seen) ≡ option_map shown (last_of s (journal ++ call ∷ []) claims)
-last_seen s call journal new seen is = ap (λ (j : List JournalCall). option_map shown (last_of s j new.seen)) is ∙ ap (λ (c : ℕ). option_map shown (last_of s (journal ++ call ∷ []) c)) seen
+pub last_seen : (s : SetupParts) (call : JournalCall) (journal : List JournalCall) (new : KeptParts)
+    → {claims : ℕ} → new.seen ≡ claims → new.journal ≡ journal ++ call ∷ []
+    → option_map shown (last_of s new.journal new.seen)
+    ≡ option_map shown (last_of s (journal ++ call ∷ []) claims)
+last_seen s call journal new seen is =
+    ap (λ (j : List JournalCall). option_map shown (last_of s j new.seen)) is
+    ∙ ap (λ (c : ℕ). option_map shown (last_of s (journal ++ call ∷ []) c)) seen
 
-pub new_desk : (s : SetupParts) (claims client : ℕ) (entries after : List Entry) (old new : KeptParts) (when : When) (action : List OutputChangeParts) (request : Request) (id tick : ℕ) (call : JournalCall) (made : List Entry) (item : Option PendingItem)
-    → IsDesk s claims entries old → IsNew s claims client old.journal request when action id tick → call ≡ journal_call claims client id tick request
-    → made ≡ map (change_entry s entries claims tick action) action → item ≡ item_above (begin s claims) id when tick action
-    → new.journal ≡ old.journal ++ call ∷ [] → after ≡ entries ++ made → new.pending ≡ old.pending ++ option_to_list item → old.seen ≡ claims → new.seen ≡ claims → new.last ≡ last_behind (begin s claims) id when tick old.last
-    → new.from ≡ old.from → new.next ≡ id + 1 → new.used ≡ old.used + places_each when * length action → new.used ≤ PLACES → IsDesk s claims after new
-new_desk s claims client entries after old new when action request id tick call made item desk is call_is made_is item_is journal after_is pending old_seen seen last from next used room =
-    let whole : call ≡ journal_call claims client id tick (Activate when action) = call_is ∙ ap (journal_call claims client id tick) is.asks in
-    let journal_is : new.journal ≡ old.journal ++ journal_call claims client id tick (Activate when action) ∷ [] = journal ∙ ap (λ (c : JournalCall). old.journal ++ c ∷ []) whole in
+pub new_desk : (s : SetupParts) (claims client : ℕ) (entries after : List Entry)
+    (old new : KeptParts) (when : When) (action : List OutputChangeParts) (request : Request)
+    (id tick : ℕ) (call : JournalCall) (made : List Entry) (item : Option PendingItem)
+    → IsDesk s claims entries old → IsNew s claims client old.journal request when action id tick
+    → call ≡ journal_call claims client id tick request
+    → made ≡ map (change_entry s entries claims tick action) action
+    → item ≡ item_above (begin s claims) id when tick action
+    → new.journal ≡ old.journal ++ call ∷ [] → after ≡ entries ++ made
+    → new.pending ≡ old.pending ++ option_to_list item → old.seen ≡ claims → new.seen ≡ claims
+    → new.last ≡ last_behind (begin s claims) id when tick old.last → new.from ≡ old.from
+    → new.next ≡ id + 1 → new.used ≡ old.used + places_each when * length action → new.used ≤ PLACES
+    → IsDesk s claims after new
+new_desk s claims client entries after old new when action request id tick call made item desk is
+    call_is made_is item_is journal after_is pending old_seen seen last from next used room =
+    let whole : call ≡ journal_call claims client id tick (Activate when action) =
+    call_is ∙ ap (journal_call claims client id tick) is.asks in
+    let journal_is : new.journal
+    ≡ old.journal ++ journal_call claims client id tick (Activate when action) ∷ [] =
+    journal ∙ ap (λ (c : JournalCall). old.journal ++ c ∷ []) whole in
     let taken : JournalCall = journal_call claims client id tick (Activate when action) in
-    let known : HasIds old.journal = ids s claims old.journal (legal_at s claims entries old desk) in
-    let fresh : is_deleted old.journal id ≡ false = false_from_ne_true (is_deleted old.journal id) (λ h. let low = known.deleted id h in omega (arith, low, is.id_is)) in
-    let legal : IsLegalJournal s claims (old.journal ++ taken ∷ []) = legal_more s claims old.journal taken (legal_at s claims entries old desk) (subst (λ (r : Request). IsAccepted s old.journal (journal_call claims client id tick r)) is.asks (new_accepted s claims client old.journal request when action id tick is)) refl in
-    let whole_are = entries_are s claims (old.journal ++ taken ∷ []) desk.setup (has_outputs s desk.setup) legal in
-    let made_alike : made ≡ call_entries s old.journal (entries_of s old.journal) taken = made_is ∙ changes_alike s old.from claims tick entries old.journal action (has_outputs s desk.setup) desk.alike (since_at s claims entries old desk) (is_free s old.journal claims when action is.free).known in
+    let known : HasIds old.journal =
+    ids s claims old.journal (legal_at s claims entries old desk) in
+    let fresh : is_deleted old.journal id ≡ false =
+    false_from_ne_true (is_deleted old.journal id)
+    (λ h. let low = known.deleted id h in omega (arith, low, is.id_is)) in
+    let legal : IsLegalJournal s claims (old.journal ++ taken ∷ []) =
+    legal_more s claims old.journal taken (legal_at s claims entries old desk)
+    (subst (λ (r : Request). IsAccepted s old.journal (journal_call claims client id tick r))
+    is.asks (new_accepted s claims client old.journal request when action id tick is)) refl in
+    let whole_are =
+    entries_are s claims (old.journal ++ taken ∷ []) desk.setup (has_outputs s desk.setup) legal in
+    let made_alike : made ≡ call_entries s old.journal (entries_of s old.journal) taken =
+    made_is
+    ∙ changes_alike s old.from claims tick entries old.journal action (has_outputs s desk.setup)
+    desk.alike (since_at s claims entries old desk)
+    (is_free s old.journal claims when action is.free).known in
     record {
       setup = desk.setup;
       legal = rw (journal_is, seen) legal;
       since = omega (arith, from, desk.since, old_seen, seen);
       looked = omega (arith, seen);
-      alike = moved s old.from new.from (entries ++ made) after (old.journal ++ taken ∷ []) new.journal (alike_more s old.from entries made old.journal taken desk.alike made_alike) from after_is journal_is;
-      rows = subst (All (IsEntryOk s.device)) (sym after_is) (all_more (IsEntryOk s.device) s entries made old.journal taken desk.rows whole_are.rows made_alike);
-      timely = subst (All (λ e. begin s e.at ≤ due e)) (sym after_is) (all_more (λ (e : Entry). begin s e.at ≤ due e) s entries made old.journal taken desk.timely whole_are.timely made_alike);
-      pending_are = pending ∙ ap (λ (o : Option PendingItem). old.pending ++ option_to_list o) item_is
-          ∙ ap (λ (is : List PendingItem). is ++ option_to_list (item_above (begin s claims) id when tick action)) (pending_at s claims entries old desk old_seen)
-          ∙ new_pending s old.journal claims client id tick when action fresh is.lands ∙ sym (at_seen s taken old.journal new seen journal_is);
-      last_is = last ∙ ap (last_behind (begin s claims) id when tick) (last_at s claims entries old desk old_seen)
-          ∙ new_last s old.journal claims client id tick when action fresh is.lands ∙ sym (last_seen s taken old.journal new seen journal_is);
-      next_is = sym (ap next_id journal_is ∙ omega (arith, sum_by-append (λ (c : JournalCall). cond (is_activation c.request) 1 0) old.journal (taken ∷ []), next, is.id_is));
-      used_are = sym (ap (places_used s) journal_is ∙ omega (arith, sum_by-append (λ (c : JournalCall). places_of c.request) old.journal (taken ∷ []), used, desk.used_are));
+      alike =
+          moved s old.from new.from (entries ++ made) after (old.journal ++ taken ∷ []) new.journal
+          (alike_more s old.from entries made old.journal taken desk.alike made_alike) from after_is
+          journal_is;
+      rows =
+          subst (All (IsEntryOk s.device)) (sym after_is)
+          (all_more (IsEntryOk s.device) s entries made old.journal taken desk.rows whole_are.rows
+          made_alike);
+      timely =
+          subst (All (λ e. begin s e.at ≤ due e)) (sym after_is)
+          (all_more (λ (e : Entry). begin s e.at ≤ due e) s entries made old.journal taken
+          desk.timely whole_are.timely made_alike);
+      pending_are =
+          pending ∙ ap (λ (o : Option PendingItem). old.pending ++ option_to_list o) item_is
+          ∙ ap (λ (is : List PendingItem).
+          is ++ option_to_list (item_above (begin s claims) id when tick action))
+          (pending_at s claims entries old desk old_seen)
+          ∙ new_pending s old.journal claims client id tick when action fresh is.lands
+          ∙ sym (at_seen s taken old.journal new seen journal_is);
+      last_is =
+          last
+          ∙ ap (last_behind (begin s claims) id when tick)
+          (last_at s claims entries old desk old_seen)
+          ∙ new_last s old.journal claims client id tick when action fresh is.lands
+          ∙ sym (last_seen s taken old.journal new seen journal_is);
+      next_is =
+          sym (ap next_id journal_is
+          ∙ omega (
+            arith,
+            sum_by-append (λ (c : JournalCall). cond (is_activation c.request) 1 0) old.journal
+                (taken ∷ []),
+            next,
+            is.id_is,
+          ));
+      used_are =
+          sym (ap (places_used s) journal_is
+          ∙ omega (
+            arith,
+            sum_by-append (λ (c : JournalCall). places_of c.request) old.journal (taken ∷ []),
+            used,
+            desk.used_are,
+          ));
       room = room;
       places = omega (
         arith,
@@ -146,7 +248,8 @@ new_desk s claims client entries after old new when action request id tick call 
         ap places_kept pending,
         sum_by-append (λ (i : PendingItem). length i.action) old.pending (option_to_list item),
         ap (λ (o : Option PendingItem). places_kept (option_to_list o)) item_is,
-        item_places (begin s claims) id tick when action (nat_lt (begin s claims) tick) refl (now_low s claims tick when is.lands),
+        item_places (begin s claims) id tick when action (nat_lt (begin s claims) tick) refl
+            (now_low s claims tick when is.lands),
         used,
         desk.places,
       );

@@ -1,5 +1,6 @@
 -- What an accepted activation makes, and that it can be published.
-use Rattle.std.proofs.Common.{◌≡◌, ℕ, ◌+◌, ◌*◌, ◌<◌, ◌≤◌, List, [], ◌∷◌, ◌++◌, length, map, Option, Some, None, refl, sym, ap, ◌∙◌, subst, arith, length-append}
+use Rattle.std.proofs.Common.{◌≡◌, ℕ, ◌+◌, ◌*◌, ◌<◌, ◌≤◌, List, [], ◌∷◌, ◌++◌, length, map, Option}
+use Rattle.std.proofs.Common.{Some, None, refl, sym, ap, ◌∙◌, subst, arith, length-append}
 use Rattle.std.specs.Prelude.{All}
 use Rattle.std.proofs.lemmas.List.Elements.{All-nil, All-cons}
 use Rattle.list_laws.proofs.Items.{All-right}
@@ -11,9 +12,11 @@ use Rattle.tai_time.specs.Time.{nanos_limit}
 use Rattle.map_entry.specs.declared.entry.Entry.{Entry}
 use Rattle.plain_book.specs.Book.{call_of}
 use Rattle.plain_book.specs.Calls.{journal_call}
-use Rattle.plain_book.specs.Desk.{IsDecided, IsDesk, IsMade, KeptParts, item_above, last_behind, settled, staged}
+use Rattle.plain_book.specs.Desk.{IsDecided, IsDesk, IsMade, KeptParts, item_above, last_behind}
+use Rattle.plain_book.specs.Desk.{settled, staged}
 use Rattle.plain_book.specs.Full.{places_each}
-use Rattle.plain_book.specs.Journal.{call_entries, change_entry, changes_of, kept_entry, request_entries, entries_of}
+use Rattle.plain_book.specs.Journal.{call_entries, change_entry, changes_of, kept_entry}
+use Rattle.plain_book.specs.Journal.{request_entries, entries_of}
 use Rattle.plain_book.specs.Replies.{accepted}
 use Rattle.plain_book.specs.Time.{begin, start}
 use Rattle.plain_book.specs.declared.calls.JournalCall.{JournalCall}
@@ -21,42 +24,64 @@ use Rattle.plain_book.specs.declared.kept.Made.{Made}
 use Rattle.plain_book.specs.declared.replies.Activation.{Activation}
 use Rattle.plain_book.specs.declared.replies.PendingItem.{PendingItem}
 use Rattle.plain_book.specs.declared.replies.Reply.{Reply}
-use Rattle.plain_book.specs.declared.requests.Request.TheVariants.{Activate, Delete, Active, Pending}
+use Rattle.plain_book.specs.declared.requests.Request.TheVariants.{Activate, Delete, Active}
+use Rattle.plain_book.specs.declared.requests.Request.TheVariants.{Pending}
 use Rattle.plain_book.specs.declared.requests.Request.{Request}
 use Rattle.plain_book.specs.declared.requests.When.{When}
 use Rattle.plain_book.proofs.Accepted.{called}
 use Rattle.plain_book.proofs.Alike.{changes_alike}
-use Rattle.plain_book.proofs.Keeping.{IsNew, desk_entries, new_desk, new_reply, has_outputs, since_at}
+use Rattle.plain_book.proofs.Keeping.{IsNew, desk_entries, new_desk, new_reply, has_outputs}
+use Rattle.plain_book.proofs.Keeping.{since_at}
 use Rattle.plain_book.proofs.Lists.{in_last}
 use Rattle.plain_book.proofs.Locks.{is_free}
 use Rattle.plain_book.proofs.Timing.{have_starts}
 
-all_at : {X : Type 0} (claims : ℕ) (f : X → Entry) → ((x : X) → (f x).at ≡ claims) → (xs : List X) → All (λ e. e.at ≡ claims) (map f xs)
+all_at : {X : Type 0} (claims : ℕ) (f : X → Entry) → ((x : X) → (f x).at ≡ claims) → (xs : List X)
+    → All (λ e. e.at ≡ claims) (map f xs)
 all_at claims f each [] = All-nil (λ (e : Entry). e.at ≡ claims)
-all_at claims f each (x ∷ xs) = All-cons (λ (e : Entry). e.at ≡ claims) (f x) (map f xs) (each x) (all_at claims f each xs)
+all_at claims f each (x ∷ xs) =
+    All-cons (λ (e : Entry). e.at ≡ claims) (f x) (map f xs) (each x) (all_at claims f each xs)
 
-request_ats : (s : SetupParts) (before : List JournalCall) (entries : List Entry) (claims tick : ℕ) (request : Request) → All (λ e. e.at ≡ claims) (request_entries s before entries claims tick request)
-request_ats s before entries claims tick (Activate when action) = all_at claims (change_entry s entries claims tick action) (λ c. refl) action
-request_ats s before entries claims tick (Delete id) = all_at claims (kept_entry s entries claims tick) (λ c. refl) (changes_of s before claims id)
+request_ats : (s : SetupParts) (before : List JournalCall) (entries : List Entry) (claims tick : ℕ)
+    (request : Request)
+    → All (λ e. e.at ≡ claims) (request_entries s before entries claims tick request)
+request_ats s before entries claims tick (Activate when action) =
+    all_at claims (change_entry s entries claims tick action) (λ c. refl) action
+request_ats s before entries claims tick (Delete id) =
+    all_at claims (kept_entry s entries claims tick) (λ c. refl) (changes_of s before claims id)
 request_ats s before entries claims tick Active = All-nil (λ (e : Entry). e.at ≡ claims)
 request_ats s before entries claims tick Pending = All-nil (λ (e : Entry). e.at ≡ claims)
 
-all_due : {X : Type 0} (P : ℕ → Type 0) (tick : ℕ) (f : X → Entry) → P tick → ((x : X) → due (f x) ≡ tick) → (xs : List X) → All (λ e. P (due e)) (map f xs)
+all_due : {X : Type 0} (P : ℕ → Type 0) (tick : ℕ) (f : X → Entry) → P tick
+    → ((x : X) → due (f x) ≡ tick) → (xs : List X)
+    → All (λ e. P (due e)) (map f xs)
 all_due P tick f holds each [] = All-nil (λ (e : Entry). P (due e))
-all_due P tick f holds each (x ∷ xs) = All-cons (λ (e : Entry). P (due e)) (f x) (map f xs) (subst P (sym (each x)) holds) (all_due P tick f holds each xs)
+all_due P tick f holds each (x ∷ xs) =
+    All-cons (λ (e : Entry). P (due e)) (f x) (map f xs) (subst P (sym (each x)) holds)
+    (all_due P tick f holds each xs)
 
 -- a request's entries count from its tick on
-request_dues : (P : ℕ → Type 0) (s : SetupParts) (before : List JournalCall) (entries : List Entry) (claims tick : ℕ) (request : Request) → P tick → All (λ e. P (due e)) (request_entries s before entries claims tick request)
-request_dues P s before entries claims tick (Activate when action) holds = all_due P tick (change_entry s entries claims tick action) holds (λ c. refl) action
-request_dues P s before entries claims tick (Delete id) holds = all_due P tick (kept_entry s entries claims tick) holds (λ c. refl) (changes_of s before claims id)
+request_dues : (P : ℕ → Type 0) (s : SetupParts) (before : List JournalCall) (entries : List Entry)
+    (claims tick : ℕ) (request : Request) → P tick
+    → All (λ e. P (due e)) (request_entries s before entries claims tick request)
+request_dues P s before entries claims tick (Activate when action) holds =
+    all_due P tick (change_entry s entries claims tick action) holds (λ c. refl) action
+request_dues P s before entries claims tick (Delete id) holds =
+    all_due P tick (kept_entry s entries claims tick) holds (λ c. refl)
+    (changes_of s before claims id)
 request_dues P s before entries claims tick Active holds = All-nil (λ (e : Entry). P (due e))
 request_dues P s before entries claims tick Pending holds = All-nil (λ (e : Entry). P (due e))
 
 -- what the entries of a call are, where the book is one with them
-pub made_of : (s : SetupParts) (claims : ℕ) (entries : List Entry) (p : KeptParts) (m : Made) → m.call.at ≡ claims → m.entries ≡ call_entries s p.journal entries m.call → m.entries ≡ call_entries s p.journal (entries_of s p.journal) m.call
-    → IsDesk s claims (entries ++ m.entries) (settled (staged p m.call m.item) m.settling) → IsMade s claims entries p m
+pub made_of : (s : SetupParts) (claims : ℕ) (entries : List Entry) (p : KeptParts) (m : Made)
+    → m.call.at ≡ claims → m.entries ≡ call_entries s p.journal entries m.call
+    → m.entries ≡ call_entries s p.journal (entries_of s p.journal) m.call
+    → IsDesk s claims (entries ++ m.entries) (settled (staged p m.call m.item) m.settling)
+    → IsMade s claims entries p m
 made_of s claims entries p m at is whole after =
-    let all = desk_entries s claims (entries ++ m.entries) (settled (staged p m.call m.item) m.settling) after in
+    let all =
+    desk_entries s claims (entries ++ m.entries)
+    (settled (staged p m.call m.item) m.settling) after in
     record {
       at_is = at;
       entries_are = is;
@@ -64,28 +89,69 @@ made_of s claims entries p m at is whole after =
       after = after;
       fits = record {
         room = omega (arith, after.places, after.room, length-append entries m.entries);
-        ats = rw is (subst (λ (k : ℕ). All (λ e. e.at ≡ k) (call_entries s p.journal entries m.call)) at (request_ats s p.journal entries m.call.at m.call.tick m.call.request));
+        ats =
+            rw is
+            (subst (λ (k : ℕ). All (λ e. e.at ≡ k) (call_entries s p.journal entries m.call)) at
+            (request_ats s p.journal entries m.call.at m.call.tick m.call.request));
         rows = All-right (IsEntryOk s.device) entries m.entries all.rows;
         timely = All-right (λ (e : Entry). begin s e.at ≤ due e) entries m.entries all.timely;
-        starts = rw is (request_dues (λ (key : ℕ). start s key < nanos_limit) s p.journal entries m.call.at m.call.tick m.call.request
-            (have_starts s p.seen (p.journal ++ m.call ∷ []) after.legal m.call (in_last p.journal m.call)));
+        starts =
+            rw is
+            (request_dues (λ (key : ℕ). start s key < nanos_limit) s p.journal entries m.call.at
+            m.call.tick m.call.request
+            (have_starts s p.seen (p.journal ++ m.call ∷ []) after.legal m.call
+            (in_last p.journal m.call)));
       };
     }
 
 -- what an accepted activation makes
-pub new_decided : (s : SetupParts) (claims client : ℕ) (entries : List Entry) (p : KeptParts) (when : When) (action : List OutputChangeParts) (request : Request) (id tick next used : ℕ) (call : JournalCall) (made : List Entry) (item : Option PendingItem) (last : Option Activation) (reply : Reply)
-    → IsDesk s claims entries p → p.seen ≡ claims → IsNew s claims client p.journal request when action id tick → call ≡ journal_call claims client id tick request
-    → made ≡ map (change_entry s entries claims tick action) action → item ≡ item_above (begin s claims) id when tick action → last ≡ last_behind (begin s claims) id when tick p.last
-    → next ≡ id + 1 → used ≡ p.used + places_each when * length action → used ≤ PLACES → reply ≡ accepted when id tick
-    → IsDecided s claims entries p client request (record { reply = reply; made = Some (record { call = call; entries = made; item = item; settling = record { takes = None; last = last; next = next; used = used } }) })
-new_decided s claims client entries p when action request id tick next used call made item last reply desk at is call_is made_is item_is last_is next_is used_is room says = record {
-  reply_is = says ∙ sym (new_reply s claims client p.journal request when action id tick is);
-  call_is = ap Some call_is ∙ sym (called s p.journal client claims request when id tick) ∙ ap (call_of s p.journal client claims request) (sym says);
-  made_is = made_of s claims entries p (record { call = call; entries = made; item = item; settling = record { takes = None; last = last; next = next; used = used } })
-      (ap (λ (c : JournalCall). c.at) call_is)
-      (made_is ∙ sym (ap (call_entries s p.journal entries) (call_is ∙ ap (journal_call claims client id tick) is.asks)))
-      (made_is
-      ∙ changes_alike s p.from claims tick entries p.journal action (has_outputs s desk.setup) desk.alike (since_at s claims entries p desk) (is_free s p.journal claims when action is.free).known
-      ∙ sym (ap (call_entries s p.journal (entries_of s p.journal)) (call_is ∙ ap (journal_call claims client id tick) is.asks)))
-      (new_desk s claims client entries (entries ++ made) p (settled (staged p call item) (record { takes = None; last = last; next = next; used = used })) when action request id tick call made item desk is call_is made_is item_is refl refl refl at at last_is refl next_is used_is room);
-}
+pub new_decided : (s : SetupParts) (claims client : ℕ) (entries : List Entry) (p : KeptParts)
+    (when : When) (action : List OutputChangeParts) (request : Request) (id tick next used : ℕ)
+    (call : JournalCall) (made : List Entry) (item : Option PendingItem) (last : Option Activation)
+    (reply : Reply) → IsDesk s claims entries p → p.seen ≡ claims
+    → IsNew s claims client p.journal request when action id tick
+    → call ≡ journal_call claims client id tick request
+    → made ≡ map (change_entry s entries claims tick action) action
+    → item ≡ item_above (begin s claims) id when tick action
+    → last ≡ last_behind (begin s claims) id when tick p.last → next ≡ id + 1
+    → used ≡ p.used + places_each when * length action → used ≤ PLACES
+    → reply ≡ accepted when id tick
+    → IsDecided s claims entries p client request (record {
+      reply = reply;
+      made =
+          Some (record {
+            call = call;
+            entries = made;
+            item = item;
+            settling = record { takes = None; last = last; next = next; used = used };
+          });
+    })
+new_decided s claims client entries p when action request id tick next used call made item last
+    reply desk at is call_is made_is item_is last_is next_is used_is room says = record {
+      reply_is = says ∙ sym (new_reply s claims client p.journal request when action id tick is);
+      call_is =
+          ap Some call_is ∙ sym (called s p.journal client claims request when id tick)
+          ∙ ap (call_of s p.journal client claims request) (sym says);
+      made_is =
+          made_of s claims entries p (record {
+            call = call;
+            entries = made;
+            item = item;
+            settling = record { takes = None; last = last; next = next; used = used };
+          })
+          (ap (λ (c : JournalCall). c.at) call_is)
+          (made_is
+          ∙ sym (ap (call_entries s p.journal entries)
+          (call_is ∙ ap (journal_call claims client id tick) is.asks)))
+          (made_is
+          ∙ changes_alike s p.from claims tick entries p.journal action (has_outputs s desk.setup)
+          desk.alike (since_at s claims entries p desk)
+          (is_free s p.journal claims when action is.free).known
+          ∙ sym (ap (call_entries s p.journal (entries_of s p.journal))
+          (call_is ∙ ap (journal_call claims client id tick) is.asks)))
+          (new_desk s claims client entries (entries ++ made) p
+          (settled (staged p call item)
+          (record { takes = None; last = last; next = next; used = used })) when action request id
+          tick call made item desk is call_is made_is item_is refl refl refl at at last_is refl
+          next_is used_is room);
+    }

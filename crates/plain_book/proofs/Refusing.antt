@@ -1,6 +1,6 @@
 -- What a book refuses, and what an activation that it doesn't refuse keeps to.
-use Rattle.std.proofs.Common.{◌≡◌, ℕ, ◌+◌, ◌*◌, ◌≤◌, Bool, true, false, ltb, List, length, map, Option, Some, None, refl, sym, ap, ◌∙◌}
-use Rattle.std.specs.Prelude.{if◌then◌else◌}
+use Rattle.std.proofs.Common.{◌≡◌, ℕ, ◌+◌, ◌*◌, ◌≤◌, false, ltb, List, length, map}
+use Rattle.std.proofs.Common.{Option, Some, None, refl, sym, ap, ◌∙◌}
 use Rattle.std.specs.Option.{option_map_or}
 use Rattle.std.proofs.lemmas.Bool.{ltb-false}
 use Rattle.io_caps.specs.declared.limits.TheConstants.{PLACES}
@@ -24,43 +24,60 @@ use Rattle.plain_book.specs.declared.requests.Request.{Request}
 use Rattle.plain_book.specs.declared.requests.When.{When}
 use Rattle.plain_book.proofs.Alike.{refusal_alike}
 use Rattle.plain_book.proofs.Keeping.{has_outputs, pending_at, since_at}
-use Rattle.plain_book.proofs.Locks.{is_free}
+use Rattle.plain_book.proofs.Locks.{is_free, none_told}
 use Rattle.plain_book.proofs.Looking.{refusal_is}
 
-pub found_refusal : (s : SetupParts) (claims : ℕ) (entries : List Entry) (kept : KeptParts) (when : When) (action : List OutputChangeParts) → IsDesk s claims entries kept → kept.seen ≡ claims
-    → refusal_from s entries kept.pending kept.used claims when action ≡ refusal_of s kept.journal claims when action
+pub found_refusal : (s : SetupParts) (claims : ℕ) (entries : List Entry) (kept : KeptParts)
+    (when : When) (action : List OutputChangeParts) → IsDesk s claims entries kept
+    → kept.seen ≡ claims
+    → refusal_from s entries kept.pending kept.used claims when action
+    ≡ refusal_of s kept.journal claims when action
 found_refusal s claims entries kept when action desk at =
-    refusal_alike s kept.from claims kept.used entries kept.pending kept.journal when action (has_outputs s desk.setup) desk.alike (since_at s claims entries kept desk)
-    ∙ ap (λ (is : List PendingItem). refusal_from s (entries_of s kept.journal) is kept.used claims when action) (pending_at s claims entries kept desk at)
-    ∙ ap (λ (n : ℕ). refusal_from s (entries_of s kept.journal) (map item_of (pending_of s kept.journal claims)) n claims when action) desk.used_are
+    refusal_alike s kept.from claims kept.used entries kept.pending kept.journal when action
+    (has_outputs s desk.setup) desk.alike (since_at s claims entries kept desk)
+    ∙ ap (λ (is : List PendingItem).
+    refusal_from s (entries_of s kept.journal) is kept.used claims when action)
+    (pending_at s claims entries kept desk at)
+    ∙ ap (λ (n : ℕ). refusal_from s (entries_of s kept.journal)
+    (map item_of (pending_of s kept.journal claims)) n claims when action) desk.used_are
     ∙ refusal_is s kept.journal claims when action
 
-not_over : (b : Bool) → (if b then Some Time else None) ≡ None → b ≡ false
-not_over true e = absurd cc
-not_over false e = refl
-
-pub in_time : (s : SetupParts) (journal : List JournalCall) (claims first : ℕ) (when : When) (action : List OutputChangeParts) → first ≡ begin s claims → refusal_of s journal claims when action ≡ None → is_over_from s first when ≡ false
+pub in_time : (s : SetupParts) (journal : List JournalCall) (claims first : ℕ) (when : When)
+    (action : List OutputChangeParts) → first ≡ begin s claims
+    → refusal_of s journal claims when action ≡ None
+    → is_over_from s first when ≡ false
 in_time s journal claims first when action is free =
-    ap (λ (t : ℕ). is_over_from s t when) is ∙ not_over (is_time_over s claims when) (is_free s journal claims when action free).in_time
+    ap (λ (t : ℕ). is_over_from s t when) is
+    ∙ none_told (is_time_over s claims when) Time
+    (is_free s journal claims when action free).in_time
 
-not_full : (b : Bool) → (if b then Some Full else None) ≡ None → b ≡ false
-not_full true e = absurd cc
-not_full false e = refl
-
-pub has_room : (s : SetupParts) (journal : List JournalCall) (claims used : ℕ) (when : When) (action : List OutputChangeParts) → used ≡ places_used s journal → refusal_of s journal claims when action ≡ None → used + places_each when * length action ≤ PLACES
+pub has_room : (s : SetupParts) (journal : List JournalCall) (claims used : ℕ) (when : When)
+    (action : List OutputChangeParts) → used ≡ places_used s journal
+    → refusal_of s journal claims when action ≡ None
+    → used + places_each when * length action ≤ PLACES
 has_room s journal claims used when action is free =
     let places : ℕ = places_used s journal + places_each when * length action in
-    let fits : ltb PLACES places ≡ false = not_full (ltb PLACES places) (is_free s journal claims when action free).room in
+    let fits : ltb PLACES places ≡ false =
+    none_told (ltb PLACES places) Full (is_free s journal claims when action free).room in
     rw is (ltb-false PLACES places fits)
 
-refused_reply : (s : SetupParts) (journal : List JournalCall) (claims : ℕ) (when : When) (action : List OutputChangeParts) (refusal : Refusal) → refusal_of s journal claims when action ≡ Some refusal → reply_of s journal claims (Activate when action) ≡ Refused refusal
+refused_reply : (s : SetupParts) (journal : List JournalCall) (claims : ℕ) (when : When)
+    (action : List OutputChangeParts) (refusal : Refusal)
+    → refusal_of s journal claims when action ≡ Some refusal
+    → reply_of s journal claims (Activate when action) ≡ Refused refusal
 unfolding reply_of
-refused_reply s journal claims when action refusal is = ap (λ (r : Option Refusal). option_map_or Refused r (accepted when (next_id journal) (landing_tick s claims when))) is
+refused_reply s journal claims when action refusal is =
+    ap (λ (r : Option Refusal).
+    option_map_or Refused r (accepted when (next_id journal) (landing_tick s claims when))) is
 
-pub refused_decided : (s : SetupParts) (claims client : ℕ) (entries : List Entry) (p : KeptParts) (request : Request) (when : When) (action : List OutputChangeParts) (refusal : Refusal) → request ≡ Activate when action → refusal_of s p.journal claims when action ≡ Some refusal
+pub refused_decided : (s : SetupParts) (claims client : ℕ) (entries : List Entry) (p : KeptParts)
+    (request : Request) (when : When) (action : List OutputChangeParts) (refusal : Refusal)
+    → request ≡ Activate when action → refusal_of s p.journal claims when action ≡ Some refusal
     → IsDecided s claims entries p client request (record { reply = Refused refusal; made = None })
 refused_decided s claims client entries p request when action refusal asks is = record {
-  reply_is = sym (ap (reply_of s p.journal claims) asks ∙ refused_reply s p.journal claims when action refusal is);
+  reply_is =
+      sym (ap (reply_of s p.journal claims) asks
+      ∙ refused_reply s p.journal claims when action refusal is);
   call_is = refl;
   made_is = tt;
 }

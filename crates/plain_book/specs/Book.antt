@@ -1,7 +1,8 @@
 -- The one-thread book: what it answers to a request at a journal and a number of claims, and the
 -- call that an accepted request becomes. (After AMWA IS-08 v1.0: `/map/activations` and
 -- `/map/active`; the order of the refusals is this project's own.)
-use Rattle.std.specs.Prelude.{ℕ, nat_lt, not, List, [], ◌∷◌, length, map, Option, Some, None, option_map, if◌then◌else◌, find}
+use Rattle.std.specs.Prelude.{ℕ, nat_lt, not, List, [], ◌∷◌, length, map, Option, Some, None}
+use Rattle.std.specs.Prelude.{option_map, if◌then◌else◌, find}
 use Rattle.std.specs.List.{range_with_len}
 use Rattle.std.specs.Option.{option_or, option_map_or}
 use Rattle.io_caps.specs.declared.device.DeviceParts.{DeviceParts}
@@ -13,12 +14,16 @@ use Rattle.map_entry.specs.Setup.{SetupParts}
 use Rattle.plain_book.specs.declared.calls.JournalCall.{JournalCall}
 use Rattle.plain_book.specs.declared.requests.When.{When}
 use Rattle.plain_book.specs.declared.requests.Request.{Request}
-use Rattle.plain_book.specs.declared.requests.Request.TheVariants.{Activate, Delete, Active as AskActive, Pending as AskPending}
+use Rattle.plain_book.specs.declared.requests.Request.TheVariants.{Activate, Delete}
+use Rattle.plain_book.specs.declared.requests.Request.TheVariants.{Active as AskActive}
+use Rattle.plain_book.specs.declared.requests.Request.TheVariants.{Pending as AskPending}
 use Rattle.plain_book.specs.declared.replies.ActiveView.{ActiveView}
 use Rattle.plain_book.specs.declared.replies.Refusal.{Refusal}
-use Rattle.plain_book.specs.declared.replies.Refusal.TheVariants.{Empty, Unknown, BadChannel, Locked, Row, Time, NotPending}
+use Rattle.plain_book.specs.declared.replies.Refusal.TheVariants.{Empty, Unknown, BadChannel}
+use Rattle.plain_book.specs.declared.replies.Refusal.TheVariants.{Locked, Row, Time, NotPending}
 use Rattle.plain_book.specs.declared.replies.Reply.{Reply}
-use Rattle.plain_book.specs.declared.replies.Reply.TheVariants.{Activated, Scheduled, Deleted, Active, Pending, Refused}
+use Rattle.plain_book.specs.declared.replies.Reply.TheVariants.{Activated, Scheduled, Deleted}
+use Rattle.plain_book.specs.declared.replies.Reply.TheVariants.{Active, Pending, Refused}
 use Rattle.plain_book.specs.Calls.{journal_call}
 use Rattle.plain_book.specs.Replies.{accepted, active_view, item_of, shown}
 use Rattle.plain_book.specs.Time.{land, is_time_over, tick_in}

@@ -1,5 +1,7 @@
 -- What an asked book answers, decides and keeps. (This project's own.)
-use Rattle.std.specs.Prelude.{◌≡◌, ℕ, ◌+◌, ◌<◌, ◌≤◌, List, [], ◌∷◌, ◌++◌, length, map, filter, find, take, sum_by, eqb, nat_lt, not, Bool, if◌then◌else◌, Option, Some, None, option_map, All, IfSome}
+use Rattle.std.specs.Prelude.{◌≡◌, ℕ, ◌+◌, ◌<◌, ◌≤◌, List, [], ◌∷◌, ◌++◌, length, map, filter, find}
+use Rattle.std.specs.Prelude.{take, sum_by, eqb, nat_lt, not, Bool, if◌then◌else◌, Option, Some}
+use Rattle.std.specs.Prelude.{None, option_map, All, IfSome}
 use Rattle.std.specs.List.{list_any}
 use Rattle.std.specs.Option.{option_or, option_to_list}
 use Rattle.io_caps.specs.declared.limits.TheConstants.{PLACES}
@@ -26,7 +28,8 @@ use Rattle.plain_book.specs.Replies.{activation, item_due, item_of, pending_item
 use Rattle.plain_book.specs.Pending.{last_of, next_id, pending_of}
 use Rattle.plain_book.specs.Journal.{call_entries, entries_of, kept_entry}
 use Rattle.plain_book.specs.Full.{full_from, places_each, places_used}
-use Rattle.plain_book.specs.Book.{first_some, empty_by, unknown_by, bad_channel_by, bad_row_at, time_by, reply_of, call_of}
+use Rattle.plain_book.specs.Book.{first_some, empty_by, unknown_by, bad_channel_by, bad_row_at}
+use Rattle.plain_book.specs.Book.{time_by, reply_of, call_of}
 use Rattle.plain_book.specs.Legal.{IsLegalJournal}
 use Rattle.plain_book.specs.Rows.{AreRows, AreTimely, SelectsAlike}
 use Rattle.plain_book.specs.Time.{start}
