@@ -8,6 +8,7 @@ from typing import Callable, Dict, List, Tuple
 
 WIDTHS = {16: 2, 24: 3}  # the bytes of a sample, by its bits
 HZ = 48000
+BILLION = 1_000_000_000  # nanoseconds of a second
 
 
 @dataclass
@@ -36,13 +37,18 @@ class Device:
         """How many samples so many ticks of claims put out."""
         return ticks * self.frames * sum(port.channels for port in self.outputs)
 
+    def block_bytes(self, ticks: int) -> int:
+        """How many bytes the blocks of all inputs and so many ticks take, at 4 bytes a sample."""
+        return 4 * ticks * self.frames * sum(port.channels for port in self.inputs)
+
 
 @dataclass
 class Measured:
-    """A capture, and how many samples its result holds."""
+    """A capture, how many samples its result holds, and how many bytes its blocks take."""
 
     data: bytes
     samples: int
+    block_bytes: int
 
 
 def record(tag: bytes, body: bytes) -> bytes:
@@ -74,7 +80,7 @@ def work(claims: int) -> bytes:
 
 def whole(device: Device, ticks: int, records: List[bytes]) -> Measured:
     data = b"CHMCAP1\n" + device_record(device) + b"".join(records) + record(b"E", b"")
-    return Measured(data, device.samples(ticks))
+    return Measured(data, device.samples(ticks), device.block_bytes(ticks))
 
 
 def routed(draw: random.Random, inputs: List[Port], channels: int) -> List[Tuple[int, int]]:
@@ -148,17 +154,77 @@ def disturbed(ticks: int) -> Measured:
     return whole(device, ticks, records + [made for _, made in arrivals])
 
 
+def ask(draw: random.Random, request: bytes) -> bytes:
+    return record(b"A", bytes([draw.randrange(16)]) + request)
+
+
+def action(draw: random.Random, device: Device, output: int) -> bytes:
+    """An action that routes each channel of an output anew."""
+    row = routed(draw, device.inputs, device.outputs[output].channels)
+    cells = b"".join(bytes([channel, *cell]) for channel, cell in enumerate(row))
+    return bytes([1, output, len(row)]) + cells
+
+
 def requests(ticks: int) -> Measured:
     """The ports of `heavy` at 6 frames a tick, with 480 activations, as many as a capture may have."""
     draw = random.Random(4)
     device = plain_device(draw, 6, (16, 8, 32, 4), 24)
     records = in_order(draw, device, ticks)
     for _ in range(480):
-        output = draw.randrange(len(device.outputs))
-        cells = routed(draw, device.inputs, 4)
-        body = bytes([draw.randrange(16), 0, 1, output, 4])
-        body += b"".join(bytes([channel, *cell]) for channel, cell in enumerate(cells))
-        records.insert(draw.randrange(len(records) + 1), record(b"A", body))
+        made = ask(draw, b"\0" + action(draw, device, draw.randrange(len(device.outputs))))
+        records.insert(draw.randrange(len(records) + 1), made)
+    return whole(device, ticks, records)
+
+
+class RequestMix:
+    """Requests of all kinds. Activations of locked outputs are refused, and deletions of what isn't pending."""
+
+    def __init__(self, draw: random.Random, device: Device) -> None:
+        self.draw, self.device = draw, device
+        self.accepted = 0
+        self.scheduled: Dict[int, Tuple[int, int]] = {}  # by output the last one's id and tick
+
+    def request(self, op: int, tick: int) -> bytes:
+        """A request at the first tick not begun."""
+        if op > 3:
+            return bytes([op])
+        return self.deletion(tick) if op == 3 else self.activation(op, tick)
+
+    def activation(self, op: int, tick: int) -> bytes:
+        """One of a scheduled time counts up to 16 ticks later."""
+        output, ahead = self.draw.randrange(len(self.device.outputs)), self.draw.randrange(1, 17)
+        if self.scheduled.get(output, (0, 0))[1] <= tick:
+            self.accepted += 1
+            if op > 0:
+                self.scheduled[output] = self.accepted, tick + ahead
+        times = [b"", self.time(tick + ahead), self.time(ahead)]
+        return bytes([op]) + times[op] + action(self.draw, self.device, output)
+
+    def time(self, ticks: int) -> bytes:
+        """The time of so many ticks, in seconds and nanoseconds."""
+        seconds, nanos = divmod(ticks * self.device.frames * BILLION // HZ, BILLION)
+        return seconds.to_bytes(8, "big") + nanos.to_bytes(4, "big")
+
+    def deletion(self, tick: int) -> bytes:
+        output = self.draw.choice([*self.scheduled, None])
+        number, counts_from = self.scheduled.get(output, (0, 0))
+        if counts_from > tick:
+            del self.scheduled[output]
+        return b"\3" + number.to_bytes(8, "big")
+
+
+def requests500(ticks: int) -> Measured:
+    """The ports of `requests`; 320 activations, 120 of them scheduled, 60 deletions, 120 readings."""
+    draw = random.Random(5)
+    device = plain_device(draw, 6, (16, 8, 32, 4), 24)
+    records, made = in_order(draw, device, ticks), RequestMix(draw, device)
+    ops = [0] * 200 + [1, 2, 3, 4, 5] * 60
+    draw.shuffle(ops)
+    places = sorted(draw.randrange(len(records) + 1) for _ in ops)
+    a_tick = len(device.inputs) + 1  # so many records
+    asks = [ask(draw, made.request(op, place // a_tick)) for op, place in zip(ops, places)]
+    for one, place in zip(reversed(asks), reversed(places)):
+        records.insert(place, one)
     return whole(device, ticks, records)
 
 
@@ -202,5 +268,6 @@ CAPTURES: Dict[str, Callable[[int], Measured]] = {
     "one_frame": one_frame,
     "disturbed": disturbed,
     "requests": requests,
+    "requests500": requests500,
     "generated": generated,
 }
