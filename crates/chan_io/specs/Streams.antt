@@ -57,3 +57,10 @@ pub record TakesPrefix (old new : Option (List ℕ)) (text : List ℕ) : Type 0 
   pub parts : text ≡ front ++ rest
   pub alike : TellsAlike old new
   pub taken : Appends old new front
+
+-- A text went to a sink: it took a front of it, and the rest still waits.
+pub record HasSent (old new : Option (List ℕ)) (waiting text : List ℕ) : Type 0 where
+  pub sent : List ℕ
+  pub alike : TellsAlike old new
+  pub took : Appends old new sent
+  pub parts : text ≡ sent ++ waiting

@@ -4,6 +4,7 @@
 #![tactic(auto)]
 
 mod memory;
+mod outgoing;
 mod standard;
 mod streams;
 #[cfg(test)]
@@ -11,6 +12,7 @@ mod tests;
 mod whole;
 
 pub use memory::{MemSink, MemSource};
+pub use outgoing::Outgoing;
 pub use standard::{StdSink, StdSource};
 pub use streams::{Failed, Sink, Source};
 pub use whole::{Unread, read_whole, write_whole};

@@ -1,0 +1,81 @@
+-- What is known of a text on its way to a sink, after one call and another.
+use Rattle.std.proofs.Common.{◌≡◌, ℕ, ◌+◌, ◌≤◌, List, [], ◌++◌, length, take, Option}
+use Rattle.std.proofs.Common.{refl, sym, ap, ◌∙◌, append_assoc, arith}
+use Rattle.std.proofs.lemmas.List.{append-nil, length-append, length-take, take_at}
+use Rattle.std.specs.Io.KnownBytes.{Appends}
+use Rattle.chan_io.specs.Streams.{HasSent, TakesPrefix, TellsAlike}
+use Rattle.chan_io.proofs.Told.{Appends-then, TellsAlike-then}
+
+-- a sink that took a front of what waits took a front of the text
+pub sent_front : (start mid new : Option (List ℕ)) (waiting text : List ℕ)
+    → HasSent start mid waiting text
+    → TakesPrefix mid new waiting
+    → TakesPrefix start new text
+sent_front start mid new waiting text h p = record {
+  front = h.sent ++ p.front;
+  rest = p.rest;
+  parts =
+      h.parts ∙ ap (λ (z : List ℕ). h.sent ++ z) p.parts ∙ sym (append_assoc h.sent p.front p.rest);
+  alike = TellsAlike-then start mid new h.alike p.alike;
+  taken = Appends-then start mid new h.sent p.front h.took p.taken;
+}
+
+-- one that took all of it leaves none to wait
+pub sent_all : (start mid new : Option (List ℕ)) (waiting text : List ℕ)
+    → HasSent start mid waiting text
+    → TellsAlike mid new
+    → Appends mid new waiting
+    → HasSent start new [] text
+sent_all start mid new waiting text h alike took = record {
+  sent = h.sent ++ waiting;
+  alike = TellsAlike-then start mid new h.alike alike;
+  took = Appends-then start mid new h.sent waiting h.took took;
+  parts = h.parts ∙ sym (append-nil (h.sent ++ waiting));
+}
+
+-- bytes that come to a text wait behind the others
+pub sent_later : (start now : Option (List ℕ)) (waiting text bytes : List ℕ)
+    → HasSent start now waiting text
+    → HasSent start now (waiting ++ bytes) (text ++ bytes)
+sent_later start now waiting text bytes h = record {
+  sent = h.sent;
+  alike = h.alike;
+  took = h.took;
+  parts = ap (λ (z : List ℕ). z ++ bytes) h.parts ∙ append_assoc h.sent waiting bytes;
+}
+
+-- what a sink took of a text is a front of it
+pub sent_so_far : (start now : Option (List ℕ)) (waiting text : List ℕ)
+    → HasSent start now waiting text
+    → TakesPrefix start now text
+sent_so_far start now waiting text h = record {
+  front = h.sent;
+  rest = waiting;
+  parts = h.parts;
+  alike = h.alike;
+  taken = h.took;
+}
+
+-- and of a longer text
+pub longer_front : (start now : Option (List ℕ)) (text bytes : List ℕ)
+    → TakesPrefix start now text
+    → TakesPrefix start now (text ++ bytes)
+longer_front start now text bytes p = record {
+  front = p.front;
+  rest = p.rest ++ bytes;
+  parts = ap (λ (z : List ℕ). z ++ bytes) p.parts ∙ append_assoc p.front p.rest bytes;
+  alike = p.alike;
+  taken = p.taken;
+}
+
+-- bytes in place behind those that wait
+pub placed : (buffer bytes behind : List ℕ) (waiting : ℕ)
+    → waiting ≤ length buffer
+    → take (waiting + length bytes) (take waiting buffer ++ (bytes ++ behind))
+    ≡ take waiting buffer ++ bytes
+placed buffer bytes behind waiting within =
+    let front = take waiting buffer in
+    let long : length (front ++ bytes) ≡ waiting + length bytes =
+    omega (arith, length-append front bytes, length-take waiting buffer, within) in
+    ap (λ (z : List ℕ). take (waiting + length bytes) z) (sym (append_assoc front bytes behind))
+    ∙ take_at (front ++ bytes) behind (waiting + length bytes) long
