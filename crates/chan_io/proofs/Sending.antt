@@ -1,6 +1,6 @@
 -- What is known of a text on its way to a sink, after one call and another.
 use Rattle.std.proofs.Common.{◌≡◌, ℕ, ◌+◌, ◌≤◌, List, [], ◌++◌, length, take, Option}
-use Rattle.std.proofs.Common.{refl, sym, ap, ◌∙◌, append_assoc, arith}
+use Rattle.std.proofs.Common.{sym, ap, ◌∙◌, append_assoc, arith}
 use Rattle.std.proofs.lemmas.List.{append-nil, length-append, length-take, take_at}
 use Rattle.std.specs.Io.KnownBytes.{Appends}
 use Rattle.chan_io.specs.Streams.{HasSent, TakesPrefix, TellsAlike}

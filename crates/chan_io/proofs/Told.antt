@@ -1,11 +1,12 @@
 -- What is told of the bytes after one call and another.
-use Rattle.std.proofs.Common.{◌≡◌, ℕ, ◌+◌, ◌-◌, List, [], ◌++◌, length, take}
+use Rattle.std.proofs.Common.{◌≡◌, ℕ, ◌+◌, ◌-◌, ◌≤◌, List, [], ◌++◌, length, take}
 use Rattle.std.proofs.Common.{drop, Option, Some, None, refl, sym, ap, ◌∙◌, append_assoc, arith}
 use Rattle.std.proofs.Math.Seq.{take-add}
 use Rattle.std.proofs.lemmas.Slice.{between_to_end}
 use Rattle.std.proofs.lemmas.List.{append-nil}
 use Rattle.std.specs.Io.KnownBytes.{Consumes, Appends}
-use Rattle.chan_io.specs.Streams.{TellsAlike}
+use Rattle.std.proofs.lemmas.List.{length-append}
+use Rattle.chan_io.specs.Streams.{BoundedRead, LongRead, TellsAlike}
 
 pub TellsAlike-same : (a : Option (List ℕ)) → TellsAlike a a
 TellsAlike-same None = tt
@@ -45,6 +46,28 @@ pub Appends-more : (a b c : Option (List ℕ)) (text : List ℕ) (i n : ℕ) →
 Appends-more a b c text i n p q =
     let rest : take (length text - i) (drop i text) ≡ drop i text = between_to_end text i (length text) (omega arith) in
     rw (take-add i n text) (Appends-then a b c (take i text) (take n (drop i text)) p (rw rest at q))
+
+-- What gave some bytes, and then the last ones, gave them all: no more than so many,
+pub read_more : (a b c : Option (List ℕ)) (before last : List ℕ) (most : ℕ)
+    → TellsAlike a b → Consumes a b before → TellsAlike b c → Consumes b c last
+    → length before + length last ≤ most → BoundedRead a c most
+read_more a b c before last most alike read alike_then read_then le = record {
+  bytes = before ++ last;
+  alike = TellsAlike-then a b c alike alike_then;
+  read = Consumes-then a b c before last read read_then;
+  bounded = omega (arith, le, length-append before last);
+}
+
+-- or one more than the limit.
+pub read_long : (a b c : Option (List ℕ)) (before last : List ℕ) (limit : ℕ)
+    → TellsAlike a b → Consumes a b before → TellsAlike b c → Consumes b c last
+    → length before + length last ≡ limit + 1 → LongRead a c limit
+read_long a b c before last limit alike read alike_then read_then is = record {
+  bytes = before ++ last;
+  alike = TellsAlike-then a b c alike alike_then;
+  read = Consumes-then a b c before last read read_then;
+  long = length-append before last ∙ is;
+}
 
 -- the lemmas above, for loops over a source or a sink
 pub ruleset steps = (TellsAlike-same, TellsAlike-then, Consumes-nothing, Consumes-then, Appends-nothing, Appends-then)

@@ -9,8 +9,9 @@ use crate::whole::write_whole;
 use crate::{Failed, Sink};
 use std::alloc::{AllocError, Global};
 
-/// Bytes on their way to a sink: those at the front of a buffer wait to be given to it. They may be
-/// written there in place, behind those that wait.
+/// Bytes on their way to a sink: those at the front of a buffer wait to be given to it. More may be
+/// written there in place, behind them. A text that met a failure of the sink isn't gone on with: how
+/// much of what waits the sink took isn't known.
 #[derive(Drop)]
 pub struct Outgoing {
     /// As many bytes as may wait at once.

@@ -1,7 +1,8 @@
 ghost use Rattle.std.specs.Prelude.{◌≡◌, ◌<◌, IfOk};
 
 use crate::{
-    Failed, MemSink, MemSource, Sink, Source, StdSink, StdSource, Unread, read_whole, write_whole,
+    Failed, MemSink, MemSource, Outgoing, Sink, Source, StdSink, StdSource, Unread, read_whole,
+    write_whole,
 };
 use std::alloc::Global;
 use std::io::{self, ErrorKind, Read, Write};
@@ -163,4 +164,35 @@ fn failing_streams(rt: HostRuntime) {
     let mut sink = StdSink::new(FailsOnce { failed: false });
     assert_eq!(rt; sink.write(b"RTP"), Err(Failed));
     assert_eq!(rt; sink.write(b"RTP"), Ok(3));
+}
+
+/// Puts each piece, and tells how many bytes the sink has then taken, or that it failed.
+fn put_pieces(
+    alloc: Global,
+    fails: Vec<u64>,
+    pieces: &[&[u8]],
+) -> Result<Vec<Result<usize, Failed>>, Fail> {
+    let mut sink = MemSink::new(alloc, fails);
+    let mut out = Outgoing::new(alloc, 4)?;
+    let mut counts = Vec::new(alloc);
+    for piece in pieces {
+        let put = out.put(&mut sink, piece);
+        counts.push(put.map(|()| sink.taken().len()))?;
+    }
+    let rest = out.flush(&mut sink);
+    counts.push(rest.map(|()| sink.taken().len()))?;
+    Ok(counts)
+}
+
+/// Bytes wait while the buffer of four has room; a longer piece goes past it.
+#[test]
+fn gathered_pieces(rt: HostRuntime) -> Result<(), Fail> {
+    let alloc = rt.alloc();
+    let pieces: [&[u8]; 6] = [b"RT", b"P", b"L1", b"", b"6L24ab", b"cdef"];
+    let counts = put_pieces(alloc, Vec::new(alloc), &pieces)?;
+    let want = [Ok(0), Ok(0), Ok(3), Ok(3), Ok(11), Ok(11), Ok(15)];
+    assert_eq!(rt; counts.as_slice(), want.as_slice());
+    let counts = put_pieces(alloc, vec![in alloc; 0, 1]?, &pieces)?;
+    assert_eq!(rt; counts.get(2), Some(&Err(Failed)));
+    Ok(())
 }

@@ -10,7 +10,7 @@ use std::alloc::Global;
 use thiserror::Error;
 
 /// The most bytes that one read asks a source for.
-const PIECE: usize = 8192;
+const PIECE: usize = 65_536;
 
 /// Why a source was not read to its end.
 #[derive(Clone, Copy, Debug, PartialEq, Eq, Error)]
@@ -30,7 +30,7 @@ pub enum Unread {
 ///
 /// In every case at most `limit` + 1 bytes are read: `TooLong` comes exactly where that many were,
 /// and the bytes in hand are let go. `Failed` comes only where the source's count of faults rose in
-/// this call, at which at most `limit` bytes were read.
+/// this call, and like `NoMemory` where at most `limit` bytes were read.
 #[tactic(auto, using(crate::proofs::Told::steps))]
 pub fn read_whole<S: Source>(alloc: Global, source: &mut S, limit: usize) -> Result<Vec<u8>, Unread>
     ensures later { S.faults source.old ≤ S.faults source.new }
@@ -40,13 +40,15 @@ pub fn read_whole<S: Source>(alloc: Global, source: &mut S, limit: usize) -> Res
         → Rose (S.faults source.old) (S.faults source.new) }
     ensures short { IsErrOf result Unread.Failed
         → BoundedRead (S.left source.old) (S.left source.new) limit }
+    ensures kept { IsErrOf result Unread.NoMemory
+        → BoundedRead (S.left source.old) (S.left source.new) limit }
     ensures long { IsErrOf result Unread.TooLong
         → LongRead (S.left source.old) (S.left source.new) limit }
     ensures most { BoundedRead (S.left source.old) (S.left source.new) (limit + 1) }
 {
     let mut bytes = Vec::new(alloc);
     let mut buffer = [0u8; PIECE];
-    while bytes.len() <= limit {
+    loop {
         let room = (limit - bytes.len()).min(PIECE - 1) + 1;
         let Ok(count) = source.read(&mut buffer[..room]) else {
             return Err(Unread::Failed);
@@ -54,11 +56,13 @@ pub fn read_whole<S: Source>(alloc: Global, source: &mut S, limit: usize) -> Res
         if count == 0 {
             return Ok(bytes);
         }
+        if count > limit - bytes.len() {
+            return Err(Unread::TooLong);
+        }
         if bytes.extend_from_slice(&buffer[..count]).is_err() {
             return Err(Unread::NoMemory);
         }
     }
-    Err(Unread::TooLong)
 }
 
 /// Gives a sink the whole text, in as many writes as the sink makes of it.

@@ -1,4 +1,4 @@
-use Rattle.chan_io.proofs.Sending.{sent_all, sent_front, sent_so_far}
+use Rattle.chan_io.proofs.Sending.{sent_all, sent_front}
 use Rattle.chan_io.proofs.outgoing.Outgoing.flush.Goals as goal
 
 pub returns-in_err-write_whole-clause-prefix : goal.returns-in_err-write_whole-clause-prefix

@@ -1,7 +1,6 @@
 use Rattle.std.proofs.Common.{length, ◌≤◌, rules}
 use Rattle.std.proofs.lemmas.List.{places, with_items_is}
-use Rattle.chan_io.proofs.Sending.{longer_front, placed, sent_all, sent_front, sent_later}
-use Rattle.chan_io.proofs.Sending.{sent_so_far}
+use Rattle.chan_io.proofs.Sending.{longer_front, sent_all, sent_front, sent_later}
 use Rattle.chan_io.proofs.outgoing.Outgoing.put.Goals as goal
 
 pub returns-in_err-flush-clause-prefix : goal.returns-in_err-flush-clause-prefix
