@@ -67,44 +67,40 @@ impl Builder<'_> {
             let tick = from / self.device.frames;
             let to = frames.end.min((tick + 1) * self.device.frames);
             let (part, left) = payload.split_at((to - from) * self.port.frame_bytes());
-            self.store_in_tick(tick, from..to, part);
+            self.store_in_tick(tick, from..to, decode(self.port.width, part));
             (from, payload) = (to, left);
         }
     }
 
-    fn store_in_tick(&mut self, tick: usize, frames: Range<usize>, payload: &[u8]) {
-        let (channels, width) = (self.port.channels, self.port.width);
-        let silence = || vec![0; self.device.frames * channels];
-        let block = self.blocks[tick].get_or_insert_with(silence);
-        let at = (frames.start - tick * self.device.frames) * channels;
-        let samples = &mut block[at..at + frames.len() * channels];
+    /// Stores the samples of frames. Samples that fill a tick become its block without a copy.
+    fn store_in_tick(&mut self, tick: usize, frames: Range<usize>, samples: Vec<i32>) {
+        let (block, channels) = (&mut self.blocks[tick], self.port.channels);
+        let start = frames.start - tick * self.device.frames;
         let is_held = &mut self.is_held[frames];
-        if !is_held.contains(&true) {
-            decode(width, payload, samples);
+        if block.is_none() && is_held.len() == self.device.frames {
+            *block = Some(samples);
         } else {
-            let parts = payload.chunks_exact(self.port.frame_bytes());
-            for ((frame, part), is_held) in samples.chunks_mut(channels).zip(parts).zip(&*is_held) {
-                if !is_held {
-                    decode(width, part, frame);
-                }
+            let block = block.get_or_insert_with(|| vec![0; self.device.frames * channels]);
+            let stored = block.chunks_exact_mut(channels).skip(start);
+            let frames = stored.zip(samples.chunks_exact(channels)).zip(&*is_held);
+            for ((stored, brought), _) in frames.filter(|(_, is_held)| !**is_held) {
+                stored.copy_from_slice(brought);
             }
         }
         is_held.fill(true);
     }
 }
 
-/// Reads samples as signed numbers of 24 bits.
-fn decode(width: Width, payload: &[u8], samples: &mut [i32]) {
+/// Samples as signed numbers of 24 bits.
+fn decode(width: Width, payload: &[u8]) -> Vec<i32> {
     match width {
         Width::L16 => {
-            for (sample, bytes) in samples.iter_mut().zip(payload.chunks_exact(2)) {
-                *sample = i32::from(i16::from_be_bytes([bytes[0], bytes[1]])) << 8;
-            }
+            let (samples, _) = payload.as_chunks();
+            samples.iter().map(|bytes| i32::from(i16::from_be_bytes(*bytes)) << 8).collect()
         }
         Width::L24 => {
-            for (sample, bytes) in samples.iter_mut().zip(payload.chunks_exact(3)) {
-                *sample = i32::from_be_bytes([bytes[0], bytes[1], bytes[2], 0]) >> 8;
-            }
+            let (samples, _) = payload.as_chunks();
+            samples.iter().map(|[a, b, c]| i32::from_be_bytes([*a, *b, *c, 0]) >> 8).collect()
         }
     }
 }
