@@ -25,11 +25,13 @@ MayAsk d body r = (is_activation r ≡ false) ⊎ (request_by d body ≡ Ok r)
 no_activation : (d : DeviceParts) (body : List ℕ) (q r : Request) → is_activation q ≡ false → Some q ≡ Some r → MayAsk d body r
 no_activation d body q r none e = inl (subst (λ (x : Request). is_activation x ≡ false) (same_Some q r e) none)
 
-posted_asks : (d : DeviceParts) (body : List ℕ) (read : Result Request BodyFault) (r : Request) → request_by d body ≡ read → asked_by (posted read) ≡ Some r → MayAsk d body r
+posted_asks : (d : DeviceParts) (body : List ℕ) (read : Result Request BodyFault) (r : Request) → request_by d body ≡ read
+    → asked_by (posted read) ≡ Some r → MayAsk d body r
 posted_asks d body (Ok q) r is e = inr (is ∙ ap Ok (same_Some q r e))
 posted_asks d body (Err fault) r is e = absurd cc
 
-plan_asks : (d : DeviceParts) (target : Target) (method : Method) (body : List ℕ) (r : Request) → asked_by (plan_at d target method body) ≡ Some r → MayAsk d body r
+plan_asks : (d : DeviceParts) (target : Target) (method : Method) (body : List ℕ) (r : Request)
+    → asked_by (plan_at d target method body) ≡ Some r → MayAsk d body r
 plan_asks d (Fixed resource) method body r e = absurd cc
 plan_asks d AllPending Post body r e = posted_asks d body (request_by d body) r refl e
 plan_asks d AllPending Get body r e = no_activation d body AskPending r refl e
@@ -44,11 +46,13 @@ plan_asks d (OnePending id) Other body r e = no_activation d body AskPending r r
 plan_asks d (Rows None) method body r e = no_activation d body AskActive r refl e
 plan_asks d (Rows (Some output)) method body r e = no_activation d body AskActive r refl e
 
-target_asks : (d : DeviceParts) (target : Option Target) (method : Method) (body : List ℕ) (r : Request) → asked_by (plan_target d target method body) ≡ Some r → MayAsk d body r
+target_asks : (d : DeviceParts) (target : Option Target) (method : Method) (body : List ℕ) (r : Request)
+    → asked_by (plan_target d target method body) ≡ Some r → MayAsk d body r
 target_asks d None method body r e = absurd cc
 target_asks d (Some target) method body r e = plan_asks d target method body r e
 
-route_asks : (d : DeviceParts) (route : Option Route) (path : List ℕ) (method : Method) (body : List ℕ) (r : Request) → asked_by (plan_route d route path method body) ≡ Some r → MayAsk d body r
+route_asks : (d : DeviceParts) (route : Option Route) (path : List ℕ) (method : Method) (body : List ℕ) (r : Request)
+    → asked_by (plan_route d route path method body) ≡ Some r → MayAsk d body r
 route_asks d None path method body r e = absurd cc
 route_asks d (Some route) path method body r e = elim (cases_Bool (has_method (methods_of route) method)) [
   | inl has ↦ target_asks d (target_of d route path) method body r (rw has at e)

@@ -2,9 +2,9 @@
 
 ghost use Rattle.std.specs.Prelude.{◌≡◌, ◌++◌, ◌⊎◌, IfOk, IfErr, OnOk, OnErr, None};
 ghost use Rattle.http_wire.specs.Response.{IsStatus};
-ghost use Rattle.api_routes.specs.Answer.{IsServed, IsUnserved, IsUnwritten, IsWritten, OnAt, OnStill};
-ghost use Rattle.api_routes.specs.Answer.{no_memory_text, said_by, said_reply, stream_response};
-ghost use Rattle.api_routes.specs.Answer.{text_said};
+ghost use Rattle.api_routes.specs.Answer.{IsServed, IsUnserved, IsUnwritten, IsWritten, OnAt};
+ghost use Rattle.api_routes.specs.Answer.{OnStill, no_memory_text, said_by, said_reply};
+ghost use Rattle.api_routes.specs.Answer.{stream_response, text_said};
 ghost use Rattle.api_routes.specs.Plan.{IsPlanOk, request_asked};
 
 use crate::answer::{Said, said_preflight, said_reply, said_resource, said_wrong, write_said};
@@ -15,6 +15,7 @@ use http_wire::HttpRequest;
 use io_caps::{Device, NoMemory, TryCopy};
 use plain_book::{Desk, Request, Stamp};
 use std::alloc::Global;
+use thiserror::Error;
 
 /// Whether the book was asked, and then the place at which it answered.
 #[derive(Clone, Copy, Debug, PartialEq, Eq)]
@@ -26,7 +27,8 @@ pub enum Answered {
 
 /// Memory ran out: with the place at which the book had answered, where it had. A call that it
 /// accepted there stays accepted.
-#[derive(Clone, Copy, Debug, PartialEq, Eq)]
+#[derive(Clone, Copy, Debug, PartialEq, Eq, Error)]
+#[error("memory ran out")]
 pub struct ServeFault {
     pub asked: Option<Stamp>,
 }

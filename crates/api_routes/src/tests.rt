@@ -785,3 +785,11 @@ fn full_table(rt: HostRuntime) -> Result<(), Fail> {
     check_step(&rt, rt.alloc(), &setup, &mut desk, &FULL)?;
     Ok(())
 }
+
+#[test]
+fn fault_as_text(rt: HostRuntime) -> Result<(), Fail> {
+    let fault = ServeFault { asked: None };
+    let text = format!(in rt.alloc(); "{fault}")?;
+    assert_eq!(rt; text.as_str(), "memory ran out");
+    Ok(())
+}
