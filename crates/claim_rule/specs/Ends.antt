@@ -1,14 +1,17 @@
 -- What is known of a table in the end. (This project's own.)
-use Rattle.std.specs.Prelude.{◌≡◌, ℕ, ◌+◌, ◌<◌, ◌≤◌, List, length}
+use Rattle.std.specs.Prelude.{◌≡◌, ℕ, ◌+◌, ◌<◌, ◌≤◌, true, List, ◌++◌, length}
 use Rattle.std.specs.List.{All}
+use Rattle.atomic_table.specs.Table.{Final, Seen}
 use Rattle.map_entry.specs.declared.entry.Entry.{Entry}
 use Rattle.map_entry.specs.Entry.{selected}
 use Rattle.claim_rule.specs.declared.plan.Plan.{Plan}
+use Rattle.claim_rule.specs.declared.plan.Start.{Start}
+use Rattle.claim_rule.specs.declared.view.View.{View}
 use Rattle.claim_rule.specs.declared.view.Draw.{Draw}
 use Rattle.claim_rule.specs.declared.view.Sight.{Sight}
-use Rattle.claim_rule.specs.Claims.{tick_of}
+use Rattle.claim_rule.specs.Claims.{plan_of, tick_of}
 use Rattle.claim_rule.specs.Views.{times, once_below, IsSight}
-use Rattle.claim_rule.specs.Rule.{IsListed, IsGood}
+use Rattle.claim_rule.specs.Rule.{Kept, IsListed, IsGood}
 
 -- what the whole list selects for a draw's tick is what the entries found select
 abbrev pub StaysSelected : Plan → List Entry → Draw → Type 0
@@ -28,3 +31,16 @@ pub record Ends (plan : Plan) (list : List Entry) (draws : List Draw)
   pub rows : All (StaysSelected plan list) draws
   pub once : (number : ℕ) → times number draws ≡ once_below number (length draws)
   pub sights : All (IsSight (length list) (length draws)) seen
+
+-- a publisher that has taken every pass in knows all in the end
+abbrev pub EndKnown : Type 0
+EndKnown =
+    (start : Start) (id : ℕ) (v : View) (words : List ℕ) (slots : List (List Entry))
+    → v.publishes ≡ true → v.parts ≡ start.workers
+    → Final (Seen (Kept start) id v) words slots
+    → Ends (plan_of start) v.entries v.draws (v.sights ++ v.told)
+
+-- the entries behind those that a draw found change no row of its tick
+abbrev pub RowsStay : Type 0
+RowsStay = (plan : Plan) (list : List Entry) (drawn : ℕ) (d : Draw) → IsGood plan list drawn d
+    → StaysSelected plan list d

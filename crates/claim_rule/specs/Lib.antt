@@ -4,4 +4,4 @@ pub mod Views
 pub mod Rule
 pub mod Plays
 pub mod Ends
-pub mod Laws
+pub mod StepsKeep

@@ -1,8 +1,9 @@
 //! Laws of the rule, each the contract of a function that does nothing.
 
-ghost use Rattle.claim_rule.specs.Laws.{OpeningHolds, DrawKeeps, ReadKeeps, LookKeeps};
-ghost use Rattle.claim_rule.specs.Laws.{StoreKeeps, ExchangeKeeps, PassKeeps, NoteKeeps};
-ghost use Rattle.claim_rule.specs.Laws.{NoteInKeeps, PassInKeeps, EndKnown, RowsStay};
+ghost use Rattle.claim_rule.specs.StepsKeep.{OpeningHolds, DrawKeeps, ReadKeeps, LookKeeps};
+ghost use Rattle.claim_rule.specs.StepsKeep.{StoreKeeps, ExchangeKeeps, PassKeeps, NoteKeeps};
+ghost use Rattle.claim_rule.specs.StepsKeep.{NoteInKeeps, PassInKeeps};
+ghost use Rattle.claim_rule.specs.Ends.{EndKnown, RowsStay};
 
 /// A table may begin with entries that its words spell.
 pub fn opening_holds()

@@ -1,22 +1,18 @@
--- What is proved of the rule: a table may begin so, each kind of step keeps it and tells what it
--- tells, and what is known in the end. (This project's own.)
+-- That a table may begin so, and that each kind of step keeps the rule and tells what it tells.
+-- (This project's own.)
 use Rattle.std.specs.Prelude.{◌≡◌, ℕ, ◌+◌, ◌*◌, ◌%◌, ◌^◌, ◌<◌, ◌≤◌}
-use Rattle.std.specs.Prelude.{◌==◌, true, false, List, [], ◌++◌, length}
+use Rattle.std.specs.Prelude.{◌==◌, true, false, List, [], length}
 use mathlib.Core.Option.{none, some}
 use prog.Atomic.{either}
-use Rattle.atomic_table.specs.Table.{step, Allows, Splits, Joins, Final, Seen, opening}
+use Rattle.atomic_table.specs.Table.{step, Allows, Splits, Joins, opening}
 use Rattle.map_entry.specs.declared.entry.Entry.{Entry}
-use Rattle.claim_rule.specs.declared.plan.Plan.{Plan}
 use Rattle.claim_rule.specs.declared.plan.Start.{Start}
 use Rattle.claim_rule.specs.declared.view.View.{View}
-use Rattle.claim_rule.specs.declared.view.Draw.{Draw}
-use Rattle.claim_rule.specs.Claims.{plan_of}
 use Rattle.claim_rule.specs.Words.{stride, state_word}
 use Rattle.claim_rule.specs.Views.{overs, opener, without_part, worker}
 use Rattle.claim_rule.specs.Views.{note, noted, taken_in, spent}
-use Rattle.claim_rule.specs.Rule.{Kept, Opens, IsGood}
+use Rattle.claim_rule.specs.Rule.{Kept, Opens}
 use Rattle.claim_rule.specs.Plays.{Knows, draws, reads, sees, writes, publishes, MayPublish}
-use Rattle.claim_rule.specs.Ends.{Ends, StaysSelected}
 
 -- a table whose words spell the entries given may begin
 abbrev pub OpeningHolds : Type 0
@@ -77,16 +73,3 @@ NoteInKeeps = (start : Start) (id : ℕ) (v : View) (other : ℕ) (w : View) →
 abbrev pub PassInKeeps : Type 0
 PassInKeeps = (start : Start) (id : ℕ) (v : View) (other : ℕ) (w : View)
     → Joins (Kept start) id v other w (taken_in v w) spent
-
--- a publisher that has taken every pass in knows all in the end
-abbrev pub EndKnown : Type 0
-EndKnown =
-    (start : Start) (id : ℕ) (v : View) (words : List ℕ) (slots : List (List Entry))
-    → v.publishes ≡ true → v.parts ≡ start.workers
-    → Final (Seen (Kept start) id v) words slots
-    → Ends (plan_of start) v.entries v.draws (v.sights ++ v.told)
-
--- the entries behind those that a draw found change no row of its tick
-abbrev pub RowsStay : Type 0
-RowsStay = (plan : Plan) (list : List Entry) (drawn : ℕ) (d : Draw) → IsGood plan list drawn d
-    → StaysSelected plan list d
