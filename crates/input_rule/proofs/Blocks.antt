@@ -10,7 +10,7 @@ use native.Mathlib.Decide.{ℕ_discrete}
 use Rattle.list_laws.proofs.Ranges.{map_same_below}
 use Rattle.std.proofs.lemmas.Option.{none-some}
 use Rattle.input_rule.proofs.Steps.{first_zero}
-use Rattle.input_rule.specs.Laws.{BlocksSettle, BlocksStay, StartsEmpty}
+use Rattle.input_rule.specs.WordsStay.{BlocksSettle, BlocksStay, StartsEmpty}
 use Rattle.input_rule.specs.declared.view.Shape.{Shape}
 use Rattle.input_rule.specs.Words.{first_words, AreLater, HasTick, IsAbsent, IsPresent, block_at}
 use Rattle.input_rule.specs.Words.{block_len, is_present, presence, sample_at, samples_at}

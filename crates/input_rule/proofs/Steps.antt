@@ -24,7 +24,7 @@ use Rattle.input_rule.specs.Views.{reader, saw, spent, taken_in, wrote}
 use Rattle.input_rule.specs.Rule.{Fits, Holds, IsHeard, IsLook, Keeps}
 use Rattle.input_rule.specs.Plays.{hears, learns, looks, presence_tick, sample_place, sample_tick}
 use Rattle.input_rule.specs.Plays.{sees, writes}
-use Rattle.input_rule.specs.Laws.{StoresSample, StoresPresence, StoresClosing}
+use Rattle.input_rule.specs.StepsKeep.{StoresSample, StoresPresence, StoresClosing}
 use Rattle.list_laws.proofs.Items.{set_keeps}
 use Rattle.input_rule.proofs.Later.{MayStore, heard_stays, later_then, look_stays}
 use Rattle.input_rule.proofs.Later.{may_store_closing, may_store_presence, may_store_sample}

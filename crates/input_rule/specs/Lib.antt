@@ -2,4 +2,5 @@ pub mod Words
 pub mod Views
 pub mod Rule
 pub mod Plays
-pub mod Laws
+pub mod StepsKeep
+pub mod WordsStay

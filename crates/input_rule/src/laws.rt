@@ -1,9 +1,9 @@
 //! Functions that carry laws: their clauses are what they are for.
 
-ghost use Rattle.input_rule.specs.Laws.{BlocksSettle, BlocksStay, GoOn, Hears};
-ghost use Rattle.input_rule.specs.Laws.{KeepsHeard, KeepsLooks, Learns, Looks};
-ghost use Rattle.input_rule.specs.Laws.{MakesReader, Sees, Starts, StartsEmpty};
-ghost use Rattle.input_rule.specs.Laws.{StoresClosing, StoresPresence, StoresSample, TakesIn};
+ghost use Rattle.input_rule.specs.StepsKeep.{Hears, Learns, Looks, MakesReader, Sees, Starts};
+ghost use Rattle.input_rule.specs.StepsKeep.{StoresClosing, StoresPresence, StoresSample, TakesIn};
+ghost use Rattle.input_rule.specs.WordsStay.{BlocksSettle, BlocksStay, GoOn, KeepsHeard};
+ghost use Rattle.input_rule.specs.WordsStay.{KeepsLooks, StartsEmpty};
 
 /// Later words go on to later ones, and what was seen or read stays so.
 #[tactic(auto, using(crate::proofs::Steps::words_stay))]

@@ -1,34 +1,15 @@
--- That each kind of step keeps the rule, and that what was seen stays so. (This project's own.)
-use Rattle.std.specs.Prelude.{ℕ, ◌≡◌, ◌^◌, ◌<◌, ◌≤◌, true, List, [], Some, None, ℤ}
+-- That the rule holds at the start, and that each kind of step keeps it. (This project's own.)
+use Rattle.std.specs.Prelude.{ℕ, ◌≡◌, ◌^◌, ◌<◌, ◌≤◌, true, []}
 use mathlib.Core.Option.{none}
 use Rattle.atomic_table.specs.Table.{Allows, Joins, Splits, opening, step}
 use Rattle.input_rule.specs.declared.view.Shape.{Shape}
 use Rattle.input_rule.specs.declared.view.View.{View}
-use Rattle.input_rule.specs.declared.view.Look.{Look}
-use Rattle.input_rule.specs.declared.view.Heard.{Heard}
-use Rattle.input_rule.specs.Words.{AreLater, AreWords, HasTick, IsAbsent, block_at}
-use Rattle.input_rule.specs.Words.{block_len, closing, first_words, presence, sample_word}
+use Rattle.input_rule.specs.Words.{AreWords, HasTick, IsAbsent, block_len, closing, first_words}
+use Rattle.input_rule.specs.Words.{presence, sample_word}
 use Rattle.input_rule.specs.Views.{HasSeen, feeder, reader, spent, taken_in}
-use Rattle.input_rule.specs.Rule.{IsHeard, IsLook, Keeps}
+use Rattle.input_rule.specs.Rule.{Keeps}
 use Rattle.input_rule.specs.Plays.{Sitting, hears as then_hears, learns as then_learns}
 use Rattle.input_rule.specs.Plays.{looks as then_looks, sees as then_sees, writes as then_writes}
-
--- ---- what stays
-
--- words that are later than later ones are later
-abbrev pub GoOn : Type 0
-GoOn = (shape : Shape) (a b c : List ℕ) → AreLater shape a b → AreLater shape b c
-    → AreLater shape a c
-
--- a look that is true of words is true of later ones
-abbrev pub KeepsLooks : Type 0
-KeepsLooks = (shape : Shape) (before after : List ℕ) → AreLater shape before after → (l : Look)
-    → IsLook shape before l → IsLook shape after l
-
--- a sample that was heard stands in later words too
-abbrev pub KeepsHeard : Type 0
-KeepsHeard = (shape : Shape) (before after : List ℕ) → AreLater shape before after → (h : Heard)
-    → IsHeard shape before h → IsHeard shape after h
 
 -- ---- the start, and the feeder's stores
 
@@ -104,22 +85,3 @@ Learns = (shape : Shape) (slots id : ℕ) (m : Sitting) (word : ℕ) → m.0.liv
     → m.0.feeds ≡ true
     → Allows (Keeps shape) slots id m word
     (λ found. found) (then_learns (step slots word 0 0 none) m)
-
--- ---- blocks
-
--- a block that is there stays as it is
-abbrev pub BlocksStay : Type 0
-BlocksStay = (shape : Shape) (before after : List ℕ) → AreLater shape before after
-    → (tick : ℕ) (block : List ℤ) → block_at shape before tick ≡ Some block
-    → block_at shape after tick ≡ Some block
-
--- what is at a closed tick stays so: its block, or none
-abbrev pub BlocksSettle : Type 0
-BlocksSettle = (shape : Shape) (before after : List ℕ) → AreWords shape before
-    → AreLater shape before after → (tick : ℕ) → tick < closing before
-    → block_at shape after tick ≡ block_at shape before tick
-
--- at the start the closing number is the first tick, and no block is there
-abbrev pub StartsEmpty : Type 0
-StartsEmpty = (shape : Shape) → (closing (first_words shape) ≡ shape.from)
-    × ((tick : ℕ) → block_at shape (first_words shape) tick ≡ None)
