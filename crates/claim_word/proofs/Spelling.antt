@@ -1,12 +1,13 @@
 -- What words can spell of entries that fit a plan.
-use Rattle.std.proofs.Common.{◌≡◌, ℕ, suc, ◌+◌, ◌<◌, ◌≤◌, true, List, length, get_or, refl, sym, ap}
+use Rattle.std.proofs.Common.{◌≡◌, ℕ, suc, ◌+◌, ◌<◌, ◌≤◌, true, List, length, get_or, sym, ap}
 use Rattle.std.proofs.Common.{◌∙◌, subst, ⊎_elim, arith}
-use Rattle.std.specs.Prelude.{Option, Some, None, option_map}
-use Rattle.std.specs.Option.{option_or, option_map_or}
+use Rattle.std.specs.Prelude.{Option, None}
+use Rattle.std.specs.Option.{option_map_or}
 use Rattle.std.specs.List.{All}
 use Rattle.std.proofs.lemmas.Bool.{ltb-true}
 use Rattle.std.proofs.lemmas.List.{get_or-map, get_or_default, length-map}
 use Rattle.std.proofs.lemmas.Option.{slice_get_cases}
+use Rattle.list_laws.proofs.Options.{option_map-None, option_or-first, option_or-second}
 use Rattle.io_caps.specs.declared.device.DeviceParts.{DeviceParts}
 use Rattle.io_caps.specs.declared.port.Input.{Input}
 use Rattle.io_caps.specs.declared.limits.TheConstants.{MOST_CHANNELS}
@@ -29,22 +30,16 @@ use Rattle.claim_word.specs.Writings.{IsWide}
 
 -- ---- cells of a row that passes the check
 
-none_mapped : {X Y : Type 0} (f : X → Y) (a : Option X) → option_map f a ≡ None → a ≡ None
-none_mapped f None e = refl
-none_mapped f (Some x) e = absurd cc
-
-none_first : {X : Type 0} (a b : Option X) → option_or a b ≡ None → (a ≡ None) × (b ≡ None)
-none_first None b e = (refl, e)
-none_first (Some x) b e = absurd cc
-
 -- no cell names an input or channel that isn't there
 none_out : (d : DeviceParts) (o : ℕ) (row : List Cell) → IsRowOk d o row
     → (lowest_out (λ channel. is_input_there d.inputs) row ≡ None)
     × (lowest_out (λ channel. is_channel_there d.inputs) row ≡ None)
 unfolding row_fault
 none_out d o row ok =
-    let a = none_first _ _ ok in let b = none_first _ _ a.1 in
-    (none_mapped NoInput _ a.0, none_mapped NoChannel _ b.0)
+    let other = option_or-second _ _ ok in (
+      option_map-None NoInput _ (option_or-first _ _ ok),
+      option_map-None NoChannel _ (option_or-first _ _ other),
+    )
 
 few_channels : (d : DeviceParts) (i : ℕ) → IsDevice d → i < length d.inputs
     → channels_of d.inputs i ≤ MOST_CHANNELS
