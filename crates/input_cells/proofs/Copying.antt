@@ -8,6 +8,7 @@ use Rattle.std.specs.Prelude.{replicate, Option, Some, None, IfSome, is_some, �
 use Rattle.std.specs.List.{All, Contains}
 use mathlib.Core.Logic.{dite}
 use native.Mathlib.Decide.{ℕ_discrete}
+use Rattle.list_laws.proofs.Items.{All-left, All-right}
 use Rattle.io_caps.specs.declared.device.DeviceParts.{DeviceParts}
 use Rattle.map_entry.specs.Row.{channels_of}
 use Rattle.packet_writer.specs.Heard.{HasFrames, HaveFrames, TickBlocks, channel_samples, sample_in}
@@ -25,7 +26,7 @@ use Rattle.input_cells.specs.Faces.{Grows, GrowsAt, HasInput, HasShape, HasView,
 use Rattle.input_cells.specs.Faces.{IsReadOf, SeatFace, face_of, heard_of, looks_of}
 use Rattle.input_cells.specs.Shapes.{IsTableOf, shape_of}
 use Rattle.input_cells.proofs.Agreeing.{range_at, shape_in}
-use Rattle.input_cells.proofs.Growing.{grows_then, keeps_seen, last_among, left_part, right_part}
+use Rattle.input_cells.proofs.Growing.{grows_then, keeps_seen, last_among}
 use Rattle.input_cells.proofs.Growing.{listened_more, on_all, on_among, still_at}
 use Rattle.input_cells.proofs.Passes.{as_many, face_at}
 use Rattle.input_cells.proofs.Starting.{as_inputs}
@@ -286,16 +287,16 @@ view_held P X (p ∷ ps) (suc i) f h = view_held P X ps i (λ d lt. f d (omega a
 looks_at : (P : Look → Type 0) (pass : List SeatFace) (k : ℕ) (d : SeatFace) → k < length pass
     → All P (looks_of pass) → All P (get_or pass k d).view.looks
 looks_at P [] k d lt h = absurd (omega arith)
-looks_at P (p ∷ ps) zero d lt h = left_part P p.view.looks (looks_of ps) h
+looks_at P (p ∷ ps) zero d lt h = All-left P p.view.looks (looks_of ps) h
 looks_at P (p ∷ ps) (suc k) d lt h =
-    looks_at P ps k d (omega arith) (right_part P p.view.looks (looks_of ps) h)
+    looks_at P ps k d (omega arith) (All-right P p.view.looks (looks_of ps) h)
 
 heard_at : (P : Heard → Type 0) (pass : List SeatFace) (k : ℕ) (d : SeatFace) → k < length pass
     → All P (heard_of pass) → All P (get_or pass k d).view.heard
 heard_at P [] k d lt h = absurd (omega arith)
-heard_at P (p ∷ ps) zero d lt h = left_part P p.view.heard (heard_of ps) h
+heard_at P (p ∷ ps) zero d lt h = All-left P p.view.heard (heard_of ps) h
 heard_at P (p ∷ ps) (suc k) d lt h =
-    heard_at P ps k d (omega arith) (right_part P p.view.heard (heard_of ps) h)
+    heard_at P ps k d (omega arith) (All-right P p.view.heard (heard_of ps) h)
 
 shape_known : (d : DeviceParts) (from ticks : ℕ) (table : List InputFace) (pass : List SeatFace)
     → IsTableOf d from ticks table → IsReadOf table pass → (k : ℕ) (e : SeatFace) → k < length pass

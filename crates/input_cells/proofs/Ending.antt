@@ -7,6 +7,7 @@ use Rattle.std.proofs.lemmas.List.Elements.{All-nil, All-cons}
 use Rattle.std.specs.Prelude.{Option, Some}
 use Rattle.std.specs.Option.{option_to_list}
 use Rattle.std.specs.List.{All}
+use Rattle.list_laws.proofs.Items.{All-right}
 use Rattle.input_rule.specs.declared.view.Shape.{Shape}
 use Rattle.input_rule.specs.declared.view.View.{View}
 use Rattle.input_rule.specs.Rule.{IsHeard, IsLook}
@@ -17,17 +18,13 @@ use Rattle.input_cells.proofs.Passes.{as_many, face_at}
 
 -- ---- one reader's seat
 
-right_part : {X : Type 0} (P : X → Type 0) (xs ys : List X) → All P (xs ++ ys) → All P ys
-right_part P [] ys h = h
-right_part P (x ∷ xs) ys h = right_part P xs ys (λ k d lt. h (suc k) d (omega arith))
-
 -- what the feeder learned after it took a reader in
 pub learned : (v w u : View) → u ≡ taken_in v w → All (IsLook u.shape u.words) u.looks
     → All (IsHeard u.shape u.words) u.heard → AreTrue v w
 learned v w u is looks heard = record {
-  looks = right_part (IsLook v.shape v.words) v.looks w.looks
+  looks = All-right (IsLook v.shape v.words) v.looks w.looks
       (subst (λ (z : View). All (IsLook z.shape z.words) z.looks) is looks);
-  heard = right_part (IsHeard v.shape v.words) v.heard w.heard
+  heard = All-right (IsHeard v.shape v.words) v.heard w.heard
       (subst (λ (z : View). All (IsHeard z.shape z.words) z.heard) is heard);
 }
 
@@ -207,7 +204,7 @@ pub one_left : (P : List SeatFace → Type 0) (feeds now : List SeatFace)
 one_left P feeds now passes left more pass i popped h =
     let all : more ++ pass ∷ i.done ≡ passes = sym (append_assoc more (pass ∷ []) i.done)
     ∙ (ap (λ (l : List (List SeatFace)). l ++ i.done) (sym popped) ∙ i.split) in
-    (right_part P more (pass ∷ i.done) (subst (All P) (sym all) h)) 0 pass (omega arith)
+    (All-right P more (pass ∷ i.done) (subst (All P) (sym all) h)) 0 pass (omega arith)
 
 pub all_confirmed : (feeds now : List SeatFace) (passes left : List (List SeatFace))
     → AreConfirmed feeds now passes left → left ≡ [] → All (AreTrueOf feeds) passes

@@ -5,6 +5,7 @@ use Rattle.std.proofs.lemmas.List.{append-nil, get_or_append_left, length-append
 use Rattle.std.proofs.lemmas.List.Elements.{All-append}
 use Rattle.std.specs.Prelude.{None, is_some, ℤ}
 use Rattle.std.specs.List.{All, Contains}
+use Rattle.list_laws.proofs.Items.{All-left, All-right}
 use Rattle.packet_writer.specs.Heard.{sample_in}
 use Rattle.input_rule.specs.declared.view.Heard.{Heard}
 use Rattle.input_rule.specs.declared.view.Look.{Look}
@@ -12,7 +13,7 @@ use Rattle.input_rule.specs.declared.view.View.{View}
 use Rattle.input_rule.specs.Views.{HasMissed, HasSeen, closed_of, listened, looked, saw}
 use Rattle.input_cells.specs.Faces.{GoesOn, Grows, GrowsAt, HasView, InputFace, SeatFace, changed}
 use Rattle.input_cells.specs.Faces.{face_of, heard_of, looks_of}
-use Rattle.input_cells.specs.Laws.{AgreesBefore, GrowsOn, KeepsMissed, KeepsSeen, StaysOfTable}
+use Rattle.input_cells.specs.PassesGrow.{AgreesBefore, GrowsOn, KeepsMissed, KeepsSeen, StaysOfTable}
 
 -- ---- lists that go on
 
@@ -175,13 +176,6 @@ keeps_missed before after f input tick h =
     grown_view (λ v. HasMissed v tick) (λ v. HasMissed v tick) (λ p q g h. missed_on p q tick g h)
     before after f input h
 
-pub left_part : {A : Type 0} (P : A → Type 0) (xs ys : List A) → All P (xs ++ ys) → All P xs
-left_part P xs ys h = on_all P xs (xs ++ ys) (ys, refl) h
-
-pub right_part : {A : Type 0} (P : A → Type 0) (xs ys : List A) → All P (xs ++ ys) → All P ys
-right_part P [] ys h = h
-right_part P (x ∷ xs) ys h = right_part P xs ys (λ k d lt. h (suc k) d (omega arith))
-
 looks_before : (P : Look → Type 0) (before after : List SeatFace) → Grows before after
     → All P (looks_of after) → All P (looks_of before)
 looks_before P [] [] f h = h
@@ -189,8 +183,8 @@ looks_before P [] (q ∷ qs) f h = absurd f
 looks_before P (p ∷ ps) [] f h = absurd f
 looks_before P (p ∷ ps) (q ∷ qs) f h =
     All-append P p.view.looks (looks_of ps)
-    (on_all P p.view.looks q.view.looks f.0.looks (left_part P q.view.looks (looks_of qs) h))
-    (looks_before P ps qs f.1 (right_part P q.view.looks (looks_of qs) h))
+    (on_all P p.view.looks q.view.looks f.0.looks (All-left P q.view.looks (looks_of qs) h))
+    (looks_before P ps qs f.1 (All-right P q.view.looks (looks_of qs) h))
 
 heard_before : (P : Heard → Type 0) (before after : List SeatFace) → Grows before after
     → All P (heard_of after) → All P (heard_of before)
@@ -199,8 +193,8 @@ heard_before P [] (q ∷ qs) f h = absurd f
 heard_before P (p ∷ ps) [] f h = absurd f
 heard_before P (p ∷ ps) (q ∷ qs) f h =
     All-append P p.view.heard (heard_of ps)
-    (on_all P p.view.heard q.view.heard f.0.heard (left_part P q.view.heard (heard_of qs) h))
-    (heard_before P ps qs f.1 (right_part P q.view.heard (heard_of qs) h))
+    (on_all P p.view.heard q.view.heard f.0.heard (All-left P q.view.heard (heard_of qs) h))
+    (heard_before P ps qs f.1 (All-right P q.view.heard (heard_of qs) h))
 
 pub agrees_before : AgreesBefore
 agrees_before d blocks before after f a = record {

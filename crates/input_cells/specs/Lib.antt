@@ -3,6 +3,6 @@ pub mod Shapes
 pub mod Ticks
 pub mod Feeding
 pub mod Agreement
-pub mod Laws
+pub mod PassesGrow
 pub mod Sources
 pub mod Looking

@@ -9,6 +9,11 @@ pub record LentFace : Type 0 where
   pub tick : ℕ
   pub pass : List SeatFace
 
+-- the pass that this lender lent, with its table, the tick and what it knows
+abbrev pub lent_face : ℕ → List InputFace → ℕ → List SeatFace → LentFace
+lent_face lender table tick pass =
+    record { lender = lender; table = table; tick = tick; pass = pass }
+
 -- it is the same pass at the same table and tick, and what it knows grew from all that it grew from
 -- before
 pub record StaysLent (before after : LentFace) : Type 0 where

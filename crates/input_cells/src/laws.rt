@@ -1,7 +1,7 @@
 //! Functions that carry laws: their clauses are what they are for.
 
-ghost use Rattle.input_cells.specs.Laws.{AgreesBefore, GrowsOn, KeepsMissed, KeepsSeen};
-ghost use Rattle.input_cells.specs.Laws.{StaysOfTable};
+ghost use Rattle.input_cells.specs.PassesGrow.{AgreesBefore, GrowsOn, KeepsMissed, KeepsSeen};
+ghost use Rattle.input_cells.specs.PassesGrow.{StaysOfTable};
 
 /// What a pass knows only grows: what it has seen stays seen, and to know more leaves fewer blocks
 /// that agree.

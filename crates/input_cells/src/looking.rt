@@ -50,7 +50,7 @@ impl<'a> FreeLooks<'a> {
 
 impl<'a> Looks for FreeLooks<'a> {
     ghost use Rattle.input_cells.specs.Looking.{FindsFree};
-    ghost use Rattle.input_cells.specs.Sources.{LentFace, LookFace, StaysLent, StaysLooking};
+    ghost use Rattle.input_cells.specs.Sources.{StaysLooking, lent_face};
     ghost use Rattle.std.specs.Prelude.{refl};
     ghost use Rattle.std.proofs.Common.{◌∙◌};
 
@@ -61,21 +61,11 @@ impl<'a> Looks for FreeLooks<'a> {
 
     ghost stays = { λ before after. StaysLooking
         (record {
-          lent = record {
-            lender = before.pass.ghost_name;
-            table = before.table.now;
-            tick = before.tick;
-            pass = before.pass.now;
-          };
+          lent = lent_face before.pass.ghost_name before.table.now before.tick before.pass.now;
           first = before.first.now.value;
         })
         (record {
-          lent = record {
-            lender = after.pass.ghost_name;
-            table = after.table.now;
-            tick = after.tick;
-            pass = after.pass.now;
-          };
+          lent = lent_face after.pass.ghost_name after.table.now after.tick after.pass.now;
           first = after.first.now.value;
         }) };
 
@@ -148,7 +138,7 @@ impl<'a> ClosedLooks<'a> {
 
 impl<'a> Looks for ClosedLooks<'a> {
     ghost use Rattle.input_cells.specs.Looking.{FindsClosed, IsOpen};
-    ghost use Rattle.input_cells.specs.Sources.{LentFace, LookFace, StaysLent, StaysLooking};
+    ghost use Rattle.input_cells.specs.Sources.{StaysLooking, lent_face};
     ghost use Rattle.std.specs.Prelude.{refl};
     ghost use Rattle.std.proofs.Common.{◌∙◌};
 
@@ -160,21 +150,11 @@ impl<'a> Looks for ClosedLooks<'a> {
 
     ghost stays = { λ before after. StaysLooking
         (record {
-          lent = record {
-            lender = before.pass.ghost_name;
-            table = before.table.now;
-            tick = before.tick;
-            pass = before.pass.now;
-          };
+          lent = lent_face before.pass.ghost_name before.table.now before.tick before.pass.now;
           first = before.first.now.value;
         })
         (record {
-          lent = record {
-            lender = after.pass.ghost_name;
-            table = after.table.now;
-            tick = after.tick;
-            pass = after.pass.now;
-          };
+          lent = lent_face after.pass.ghost_name after.table.now after.tick after.pass.now;
           first = after.first.now.value;
         }) };
 

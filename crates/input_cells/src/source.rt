@@ -78,7 +78,7 @@ impl<'a> SeenSamples<'a> {
 
 impl<'a> Samples for SeenSamples<'a> {
     ghost use Rattle.input_cells.specs.Agreement.{AreHeard};
-    ghost use Rattle.input_cells.specs.Sources.{LentFace, SeenFace, StaysLent, StaysSeen};
+    ghost use Rattle.input_cells.specs.Sources.{StaysSeen, lent_face};
     ghost use Rattle.std.specs.Prelude.{refl};
     ghost use Rattle.std.proofs.Common.{◌∙◌};
 
@@ -86,21 +86,11 @@ impl<'a> Samples for SeenSamples<'a> {
 
     ghost stays = { λ before after. StaysSeen
         (record {
-          lent = record {
-            lender = before.pass.ghost_name;
-            table = before.table.now;
-            tick = before.tick;
-            pass = before.pass.now;
-          };
+          lent = lent_face before.pass.ghost_name before.table.now before.tick before.pass.now;
           flags = before.flags.now;
         })
         (record {
-          lent = record {
-            lender = after.pass.ghost_name;
-            table = after.table.now;
-            tick = after.tick;
-            pass = after.pass.now;
-          };
+          lent = lent_face after.pass.ghost_name after.table.now after.tick after.pass.now;
           flags = after.flags.now;
         }) };
 

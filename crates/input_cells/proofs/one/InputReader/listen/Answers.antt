@@ -1,8 +1,5 @@
-use Rattle.std.proofs.Common.{ℤ, ◌≤◌, ◌^◌, rules, ℕ, ◌≡◌, ◌+◌, ◌<◌, ◌∙◌, sym, ap, subst, arith, w32}
+use Rattle.std.proofs.Common.{◌≤◌, ℕ, ◌≡◌, ◌+◌, ◌<◌, ◌∙◌, sym, ap, subst, arith, w32}
 use Rattle.std.proofs.Common.{to_z, of_z}
-use Rattle.std.proofs.lemmas.Int.{to_z-of_z}
-use mir.Val.{SFits}
-use lib.Signed.{mag}
 use Rattle.input_rule.specs.declared.view.Shape.{Shape}
 use Rattle.input_rule.specs.declared.view.View.{View}
 use Rattle.input_rule.specs.Views.{HasSeen, listened}
@@ -10,7 +7,7 @@ use Rattle.input_rule.specs.Plays.{sample_place, sample_tick}
 use Rattle.std.specs.List.{Contains}
 use Rattle.input_rule.specs.Words.{HasTick, block_len, block_start}
 use Rattle.input_rule.proofs.Steps.{hears_allowed}
-use Rattle.input_cells.proofs.Seats.{listened_at, place_back, tick_back}
+use Rattle.input_cells.proofs.Seats.{listened_at, place_back, tick_back, whole}
 use Rattle.input_cells.specs.Faces.{InputFace, SeatFace}
 use Rattle.input_cells.proofs.one.InputReader.listen.Goals as goal
 
@@ -34,10 +31,6 @@ load-requires c =
           (subst (λ (z : SeatFace). HasSeen z.view c.args.tick) (sym c.self.view_is)
           c.requires.seen),
     )
-
--- the sample is a number of 32 bits
-whole : (z : ℤ) → mag z < 2 ^ 31 → to_z w32 (of_z w32 z) ≡ z
-whole z fits = let in_range : SFits w32 z = search rules in to_z-of_z w32 z in_range
 
 pub returns-clause-heard : goal.returns-clause-heard
 returns-clause-heard c =

@@ -1,4 +1,4 @@
--- Laws on what passes know. (This project's own.)
+-- That what passes know only grows. (This project's own.)
 use Rattle.std.specs.Prelude.{ℕ, List}
 use Rattle.io_caps.specs.declared.device.DeviceParts.{DeviceParts}
 use Rattle.input_rule.specs.Views.{HasMissed, HasSeen}
