@@ -1,6 +1,8 @@
--- What a draw found selects for its tick what the whole journal selects in the end; and flags and packets go over to the journal
--- and to the inputs' blocks.
-use Rattle.std.proofs.Common.{◌≡◌, ℕ, ◌+◌, ◌*◌, ◌/◌, ◌<◌, ◌≤◌, Bool, true, false, List, [], ◌++◌, length, take, drop, Option, inl, inr, refl, sym, ap, subst, ◌∙◌, arith}
+-- What a draw found selects for its tick what the whole journal selects in the end; and flags and
+-- packets go over to the journal and to the inputs' blocks.
+use Rattle.std.proofs.Common.{◌≡◌, ℕ, ◌+◌, ◌*◌, ◌/◌, ◌<◌, ◌≤◌, Bool, true, false, List, [], ◌++◌}
+use Rattle.std.proofs.Common.{length, take, drop, Option, inl, inr, refl, sym, ap, subst, ◌∙◌}
+use Rattle.std.proofs.Common.{arith}
 use Rattle.std.specs.Prelude.{All, ◌&&◌, is_some, ℤ}
 use Rattle.std.specs.Int.{div_ceil}
 use Rattle.std.specs.Option.{unwrap_or}
@@ -16,7 +18,8 @@ use Rattle.map_entry.specs.declared.entry.Entry.{Entry}
 use Rattle.map_entry.proofs.Selection.{selected-later}
 use Rattle.packet_writer.specs.Flags.{is_there, names_by}
 use Rattle.packet_writer.specs.Heard.{AreRows}
-use Rattle.packet_writer.specs.Packet.{Blocks, claim_rows, flag_of, output_of_claim, packet_by, tick_of_claim}
+use Rattle.packet_writer.specs.Packet.{Blocks, claim_rows, flag_of, output_of_claim, packet_by}
+use Rattle.packet_writer.specs.Packet.{tick_of_claim}
 use Rattle.packet_writer.proofs.ClaimLaws.{names_by-same, packet_by-same}
 use Rattle.plain_book.specs.declared.calls.JournalCall.{JournalCall}
 use Rattle.plain_book.specs.Journal.{entries_of}
@@ -34,47 +37,73 @@ use Rattle.interleavings.specs.Facts.Gathering.{GatherClosed, GatherFree}
 ceil_whole : (n b : ℕ) → 0 < n → div_ceil (b * n) n ≤ b
 ceil_whole n b some =
     let low : div_ceil (b * n) n * n < b * n + n = (div_ceil_times (b * n) n some).1 in
-    let less : div_ceil (b * n) n * n / n < b + 1 = (div-lt_iff_lt-mul {x = div_ceil (b * n) n * n} {y = b + 1} some).1 (omega (arith, low, add-mul b 1 n)) in
+    let less : div_ceil (b * n) n * n / n < b + 1 =
+    (div-lt_iff_lt-mul {x = div_ceil (b * n) n * n} {y = b + 1} some).1
+    (omega (arith, low, add-mul b 1 n)) in
     omega (arith, less, mul-div_cancel (div_ceil (b * n) n) some)
 
 pub tick_from : (n before x : ℕ) → 0 < n → before ≤ (before * n + x) / n
 tick_from n before x some = elim (cases_lt ((before * n + x) / n) before) [
   | inr here ↦ here
-  | inl below ↦ absurd (let w = (div-lt_iff_lt-mul {x = before * n + x} {y = before} some).0 below in omega (arith, w))
+  | inl below ↦
+      absurd (let w = (div-lt_iff_lt-mul {x = before * n + x} {y = before} some).0 below in
+      omega (arith, w))
 ]
 
 pub tick_to : (n before x ticks : ℕ) → 0 < n → x < ticks * n → (before * n + x) / n < before + ticks
-tick_to n before x ticks some lt = (div-lt_iff_lt-mul {x = before * n + x} {y = before + ticks} some).1 (omega (arith, lt, add-mul before ticks n))
+tick_to n before x ticks some lt =
+    (div-lt_iff_lt-mul {x = before * n + x} {y = before + ticks} some).1
+    (omega (arith, lt, add-mul before ticks n))
 
-begun_before : (s : SetupParts) (before x : ℕ) → HasOutputs s → begin s (before * length s.device.outputs) ≤ tick_of_claim s (before * length s.device.outputs + x)
-begun_before s before x some = omega (arith, ceil_whole (length s.device.outputs) before some, tick_from (length s.device.outputs) before x some)
+begun_before : (s : SetupParts) (before x : ℕ) → HasOutputs s
+    → begin s (before * length s.device.outputs)
+    ≤ tick_of_claim s (before * length s.device.outputs + x)
+begun_before s before x some =
+    omega (
+      arith,
+      ceil_whole (length s.device.outputs) before some,
+      tick_from (length s.device.outputs) before x some,
+    )
 
 -- ---- rows
 
 -- a journal goes on by calls that were accepted at so many claims or later
 abbrev pub IsWithLater : List JournalCall → ℕ → List JournalCall → Type 0
-IsWithLater before low after = (more : List JournalCall) × (after ≡ before ++ more) × All (λ c. low ≤ c.at) more
+IsWithLater before low after = (more : List JournalCall) × (after ≡ before ++ more)
+    × All (λ c. low ≤ c.at) more
 
 -- calls behind a claim leave its row
-later_leave : (s : SetupParts) (m low : ℕ) (journal last : List JournalCall) (o k : ℕ) → HasOutputs s → IsLegalJournal s m last → IsWithLater journal low last → k < low
-    → selected (entries_of s journal) o (tick_of_claim s k) ≡ selected (entries_of s last) o (tick_of_claim s k)
+later_leave : (s : SetupParts) (m low : ℕ) (journal last : List JournalCall) (o k : ℕ)
+    → HasOutputs s → IsLegalJournal s m last → IsWithLater journal low last → k < low
+    → selected (entries_of s journal) o (tick_of_claim s k)
+    ≡ selected (entries_of s last) o (tick_of_claim s k)
 later_leave s m low journal last o k some legal goes lt =
-    let front : take (length journal) last ≡ journal = ap (take (length journal)) goes.1 ∙ take-append_seam journal goes.0 in
-    let behind : drop (length journal) last ≡ goes.0 = ap (drop (length journal)) goes.1 ∙ drop-append_seam journal goes.0 in
-    let later : All (λ c. k < c.at) goes.0 = λ i d within. (let at = goes.2 i d within in omega (arith, at, lt)) in
+    let front : take (length journal) last ≡ journal =
+    ap (take (length journal)) goes.1 ∙ take-append_seam journal goes.0 in
+    let behind : drop (length journal) last ≡ goes.0 =
+    ap (drop (length journal)) goes.1 ∙ drop-append_seam journal goes.0 in
+    let later : All (λ c. k < c.at) goes.0 =
+    λ i d within. (let at = goes.2 i d within in omega (arith, at, lt)) in
     ap (λ (j : List JournalCall). selected (entries_of s j) o (tick_of_claim s k)) (sym front)
-    ∙ sym (claimed s m last o k (length journal) some legal (subst (λ (calls : List JournalCall). All (λ c. k < c.at) calls) (sym behind) later))
+    ∙ sym (claimed s m last o k (length journal) some legal
+    (subst (λ (calls : List JournalCall). All (λ c. k < c.at) calls) (sym behind) later))
 
-found_list : (s : SetupParts) (found rest list : List Entry) (o t : ℕ) → list ≡ found ++ rest → All (λ e. t < due e) rest → selected found o t ≡ selected list o t
-found_list s found rest list o t is late = sym (ap (λ (es : List Entry). selected es o t) is ∙ selected-later due found rest o t late)
+found_list : (s : SetupParts) (found rest list : List Entry) (o t : ℕ) → list ≡ found ++ rest
+    → All (λ e. t < due e) rest → selected found o t ≡ selected list o t
+found_list s found rest list o t is late =
+    sym (ap (λ (es : List Entry). selected es o t) is ∙ selected-later due found rest o t late)
 
 -- the rows of the packets of claim k are alike by these entries and by those
 abbrev pub AreRowsAlike : SetupParts → List Entry → List Entry → ℕ → Type 0
-AreRowsAlike s entries more k = AreRows s.device.rate.frames (claim_rows s entries k) (claim_rows s more k)
+AreRowsAlike s entries more k =
+    AreRows s.device.rate.frames (claim_rows s entries k) (claim_rows s more k)
 
 -- the rows that a draw found are those of the whole journal
-pub rows_found : (s : SetupParts) (m before made : ℕ) (list : List Entry) (journal last : List JournalCall) (d : Draw) → HasOutputs s → IsLegalJournal s m last → IsWithLater journal (before * length s.device.outputs + made) last
-    → SelectsAlike s (before * length s.device.outputs) list journal → IsGood s (before * length s.device.outputs) made list d → d.number < made
+pub rows_found : (s : SetupParts) (m before made : ℕ) (list : List Entry)
+    (journal last : List JournalCall) (d : Draw) → HasOutputs s → IsLegalJournal s m last
+    → IsWithLater journal (before * length s.device.outputs + made) last
+    → SelectsAlike s (before * length s.device.outputs) list journal
+    → IsGood s (before * length s.device.outputs) made list d → d.number < made
     → AreRowsAlike s d.found (entries_of s last) (before * length s.device.outputs + d.number)
 rows_found s m before made list journal last d some legal goes rules good early frame lt =
     let k : ℕ = before * length s.device.outputs + d.number in
@@ -83,27 +112,35 @@ rows_found s m before made list journal last d some legal goes rules good early 
     ap (λ (r : Option (List Cell)). unwrap_or r [])
     (found_list s d.found good.rest list o t good.front (good.later early)
     ∙ rules o t (mod-lt k some) (begun_before s before d.number some)
-    ∙ later_leave s m (before * length s.device.outputs + made) journal last o k some legal goes (omega (arith, early)))
+    ∙ later_leave s m (before * length s.device.outputs + made) journal last o k some legal goes
+    (omega (arith, early)))
 
 -- ---- blocks
 
 -- the blocks of a claim's tick are fed as the way to gather asks
 abbrev pub AreFedAlike : SetupParts → Gathering → Blocks → Blocks → ℕ → Type 0
-AreFedAlike s g set blocks k = (input : ℕ) → input < length s.device.inputs → IsFedAs g (set input (tick_of_claim s k)) (blocks input (tick_of_claim s k))
+AreFedAlike s g set blocks k = (input : ℕ) → input < length s.device.inputs
+    → IsFedAs g (set input (tick_of_claim s k)) (blocks input (tick_of_claim s k))
 
 -- the blocks whose flags are set are the same
 abbrev AreFoundAlike : Blocks → Blocks → List Bool → ℕ → Type 0
-AreFoundAlike set blocks flags tick = (input : ℕ) → flag_of flags input ≡ true → set input tick ≡ blocks input tick
+AreFoundAlike set blocks flags tick = (input : ℕ) → flag_of flags input ≡ true
+    → set input tick ≡ blocks input tick
 
-pub within : (n input : ℕ) (flags : List Bool) → length flags ≡ n → flag_of flags input ≡ true → input < n
+pub within : (n input : ℕ) (flags : List Bool) → length flags ≡ n
+    → flag_of flags input ≡ true → input < n
 within n input flags long on = elim (cases_lt input n) [
   | inl there ↦ there
-  | inr past ↦ absurd (false≢true (sym (get_or_past flags input false (omega (arith, past, long))) ∙ on))
+  | inr past ↦
+      absurd (false≢true (sym (get_or_past flags input false (omega (arith, past, long))) ∙ on))
 ]
 
--- what the flags of a claim say by some entries and blocks, they say by entries with the same rows and by the inputs' blocks
-form_same : (s : SetupParts) (g : Gathering) (entries more : List Entry) (set blocks : Blocks) (k : ℕ) (flags : List Bool) → AreRowsAlike s entries more k → AreFedAlike s g set blocks k
-    → form_by s g entries set k flags → form_by s g more blocks k flags × AreFoundAlike set blocks flags (tick_of_claim s k)
+-- what the flags of a claim say by some entries and blocks, they say by entries with the same rows
+-- and by the inputs' blocks
+form_same : (s : SetupParts) (g : Gathering) (entries more : List Entry) (set blocks : Blocks)
+    (k : ℕ) (flags : List Bool) → AreRowsAlike s entries more k → AreFedAlike s g set blocks k
+    → form_by s g entries set k flags → form_by s g more blocks k flags
+    × AreFoundAlike set blocks flags (tick_of_claim s k)
 form_same s GatherClosed entries more set blocks k flags rows same is = (
   record {
     long = is.long;
@@ -121,7 +158,8 @@ form_same s (GatherFree seen) entries more set blocks k flags rows same is = (
         let named = names_by-same s entries more k rows input in
         let flag = is.each input lt in
         record {
-          only = λ on. let both = flag.only on in (sym named ∙ both.0, ap is_some (sym (same input lt both.1)) ∙ both.1);
+          only = λ on. let both = flag.only on in
+              (sym named ∙ both.0, ap is_some (sym (same input lt both.1)) ∙ both.1);
           wherever = λ names saw. flag.wherever (named ∙ names) saw;
         };
   },
@@ -131,8 +169,14 @@ form_same s (GatherFree seen) entries more set blocks k flags rows same is = (
 )
 
 -- a claim by some entries and blocks is one by entries with the same rows and by the inputs' blocks
-pub claim_same : (s : SetupParts) (g : Gathering) (entries more : List Entry) (set blocks : Blocks) (k : ℕ) (flags : List Bool) → AreRowsAlike s entries more k → AreFedAlike s g set blocks k → form_by s g entries set k flags
-    → form_by s g more blocks k flags × (packet_by s entries set flags k ≡ packet_by s more blocks flags k)
+pub claim_same : (s : SetupParts) (g : Gathering) (entries more : List Entry) (set blocks : Blocks)
+    (k : ℕ) (flags : List Bool) → AreRowsAlike s entries more k → AreFedAlike s g set blocks k
+    → form_by s g entries set k flags
+    → form_by s g more blocks k flags
+    × (packet_by s entries set flags k ≡ packet_by s more blocks flags k)
 claim_same s g entries more set blocks k flags rows same is =
-    let over = form_same s g entries more set blocks k flags rows same is in
-    (over.0, packet_by-same s entries more set blocks flags flags k rows (λ input named. refl) (λ input named on. over.1 input on))
+    let over = form_same s g entries more set blocks k flags rows same is in (
+      over.0,
+      packet_by-same s entries more set blocks flags flags k rows (λ input named. refl)
+          (λ input named on. over.1 input on),
+    )

@@ -1,5 +1,7 @@
 -- The answers of a book at their places in the whole journal, and the calls that they made.
-use Rattle.std.proofs.Common.{◌≡◌, ℕ, ◌+◌, ◌<◌, ◌≤◌, Bool, true, false, eqb, List, [], ◌∷◌, ◌++◌, length, take, drop, Option, Some, None, inl, inr, refl, sym, ap, subst, ◌∙◌, arith, length-append, append_assoc, eq-eqb}
+use Rattle.std.proofs.Common.{◌≡◌, ℕ, ◌+◌, ◌<◌, ◌≤◌, Bool, true, false, eqb, List, [], ◌∷◌, ◌++◌}
+use Rattle.std.proofs.Common.{length, take, drop, Option, Some, None, inl, inr, refl, sym, ap}
+use Rattle.std.proofs.Common.{subst, ◌∙◌, arith, length-append, append_assoc, eq-eqb}
 use Rattle.std.specs.Prelude.{All, IfSome, ◌&&◌, cond, is_some, option_map, slice_get}
 use Rattle.std.specs.List.{AllByRecursion}
 use Rattle.std.specs.Option.{option_map_or, option_to_list}
@@ -16,7 +18,8 @@ use Rattle.plain_book.specs.declared.replies.Refusal.TheVariants.{NotPending}
 use Rattle.plain_book.specs.declared.replies.Reply.{Reply}
 use Rattle.plain_book.specs.declared.replies.Reply.TheVariants.{Deleted, Refused}
 use Rattle.plain_book.specs.declared.requests.Request.{Request}
-use Rattle.plain_book.specs.declared.requests.Request.TheVariants.{Activate, Delete, Active, Pending}
+use Rattle.plain_book.specs.declared.requests.Request.TheVariants.{Activate, Delete, Active}
+use Rattle.plain_book.specs.declared.requests.Request.TheVariants.{Pending}
 use Rattle.plain_book.specs.declared.requests.Stamp.{Stamp}
 use Rattle.plain_book.specs.declared.requests.When.{When}
 use Rattle.plain_book.specs.declared.requests.When.TheVariants.{Now, At, After}
@@ -32,29 +35,42 @@ use Rattle.interleavings.specs.Told.{given_to}
 
 -- ---- a reply that accepts is one that makes a call
 
-by_when : (s : SetupParts) (journal : List JournalCall) (client claims : ℕ) (request : Request) (when : When) (id tick : ℕ)
-    → is_some (call_of s journal client claims request (accepted when id tick)) ≡ accepts (accepted when id tick)
+by_when : (s : SetupParts) (journal : List JournalCall) (client claims : ℕ) (request : Request)
+    (when : When) (id tick : ℕ)
+    → is_some (call_of s journal client claims request (accepted when id tick))
+    ≡ accepts (accepted when id tick)
 by_when s journal client claims request Now id tick = refl
 by_when s journal client claims request (At x) id tick = refl
 by_when s journal client claims request (After x) id tick = refl
 
-by_refusal : (s : SetupParts) (journal : List JournalCall) (client claims : ℕ) (request : Request) (when : When) (id tick : ℕ) (r : Option Refusal)
-    → is_some (call_of s journal client claims request (option_map_or Refused r (accepted when id tick))) ≡ accepts (option_map_or Refused r (accepted when id tick))
-by_refusal s journal client claims request when id tick None = by_when s journal client claims request when id tick
+by_refusal : (s : SetupParts) (journal : List JournalCall) (client claims : ℕ) (request : Request)
+    (when : When) (id tick : ℕ) (r : Option Refusal)
+    → is_some (call_of s journal client claims request
+    (option_map_or Refused r (accepted when id tick)))
+    ≡ accepts (option_map_or Refused r (accepted when id tick))
+by_refusal s journal client claims request when id tick None =
+    by_when s journal client claims request when id tick
 by_refusal s journal client claims request when id tick (Some r) = refl
 
-by_found : (s : SetupParts) (journal : List JournalCall) (client claims id : ℕ) (request : Request) (o : Option JournalCall) → pending_call s journal claims id ≡ o
-    → is_some (call_of s journal client claims request (option_map_or (λ c. Deleted id) o (Refused (NotPending id))))
+by_found : (s : SetupParts) (journal : List JournalCall) (client claims id : ℕ) (request : Request)
+    (o : Option JournalCall) → pending_call s journal claims id ≡ o
+    → is_some (call_of s journal client claims request
+    (option_map_or (λ c. Deleted id) o (Refused (NotPending id))))
     ≡ accepts (option_map_or (λ c. Deleted id) o (Refused (NotPending id)))
 by_found s journal client claims id request None e = refl
-by_found s journal client claims id request (Some c) e = ap (λ (o : Option JournalCall). is_some (option_map (deletion client claims request) o)) e
+by_found s journal client claims id request (Some c) e =
+    ap (λ (o : Option JournalCall). is_some (option_map (deletion client claims request) o)) e
 
-pub makes_call : (s : SetupParts) (journal : List JournalCall) (client claims : ℕ) (request : Request)
-    → is_some (call_of s journal client claims request (reply_of s journal claims request)) ≡ accepts (reply_of s journal claims request)
+pub makes_call : (s : SetupParts) (journal : List JournalCall) (client claims : ℕ)
+    (request : Request)
+    → is_some (call_of s journal client claims request (reply_of s journal claims request))
+    ≡ accepts (reply_of s journal claims request)
 unfolding reply_of
 makes_call s journal client claims (Activate when action) =
-    by_refusal s journal client claims (Activate when action) when (next_id journal) (landing_tick s claims when) (refusal_of s journal claims when action)
-makes_call s journal client claims (Delete id) = by_found s journal client claims id (Delete id) (pending_call s journal claims id) refl
+    by_refusal s journal client claims (Activate when action) when (next_id journal)
+    (landing_tick s claims when) (refusal_of s journal claims when action)
+makes_call s journal client claims (Delete id) =
+    by_found s journal client claims id (Delete id) (pending_call s journal claims id) refl
 makes_call s journal client claims Active = refl
 makes_call s journal client claims Pending = refl
 
@@ -62,60 +78,80 @@ makes_call s journal client claims Pending = refl
 abbrev pub call_given : SetupParts → List JournalCall → Given → Option JournalCall
 call_given s before g = call_of s before g.client g.stamp.claims g.request g.reply
 
-pub given_accepts : (s : SetupParts) (before : List JournalCall) (low : ℕ) (g : Given) → IsGiven s before low g → is_some (call_given s before g) ≡ accepts g.reply
+pub given_accepts : (s : SetupParts) (before : List JournalCall) (low : ℕ) (g : Given)
+    → IsGiven s before low g → is_some (call_given s before g) ≡ accepts g.reply
 given_accepts s before low g is =
-    subst (λ (reply : Reply). is_some (call_of s before g.client g.stamp.claims g.request reply) ≡ accepts reply) (sym is.reply_is) (makes_call s before g.client g.stamp.claims g.request)
+    subst (λ (reply : Reply). is_some (call_of s before g.client g.stamp.claims g.request reply)
+    ≡ accepts reply) (sym is.reply_is) (makes_call s before g.client g.stamp.claims g.request)
 
 -- ---- further answers only add calls, none at fewer claims
 
 abbrev GoesOnBy : List JournalCall → ℕ → List JournalCall → Type 0
-GoesOnBy before low after = (more : List JournalCall) × (after ≡ before ++ more) × All (λ c. low ≤ c.at) more
+GoesOnBy before low after = (more : List JournalCall) × (after ≡ before ++ more)
+    × All (λ c. low ≤ c.at) more
 
-late_call : (s : SetupParts) (before : List JournalCall) (g : Given) (low : ℕ) → low ≤ g.stamp.claims → (o : Option JournalCall) → call_given s before g ≡ o
+late_call : (s : SetupParts) (before : List JournalCall) (g : Given) (low : ℕ)
+    → low ≤ g.stamp.claims → (o : Option JournalCall) → call_given s before g ≡ o
     → All (λ c. low ≤ c.at) (option_to_list o)
 late_call s before g low le None e = All-nil (λ (c : JournalCall). low ≤ c.at)
 late_call s before g low le (Some call) e =
     let at = (call_parts s before g.client g.stamp.claims g.request g.reply call e).at_is in
-    All-cons (λ (c : JournalCall). low ≤ c.at) call [] (omega (arith, at, le)) (All-nil (λ (c : JournalCall). low ≤ c.at))
+    All-cons (λ (c : JournalCall). low ≤ c.at) call [] (omega (arith, at, le))
+    (All-nil (λ (c : JournalCall). low ≤ c.at))
 
-pub goes_on : (s : SetupParts) (before : List JournalCall) (low : ℕ) (given : List Given) (after : List JournalCall) (high : ℕ) → AreGiven s before low given after high
+pub goes_on : (s : SetupParts) (before : List JournalCall) (low : ℕ) (given : List Given)
+    (after : List JournalCall) (high : ℕ) → AreGiven s before low given after high
     → GoesOnBy before low after
-goes_on s before low [] after high is = ([], sym is.0 ∙ sym (append-nil before), All-nil (λ (c : JournalCall). low ≤ c.at))
+goes_on s before low [] after high is =
+    ([], sym is.0 ∙ sym (append-nil before), All-nil (λ (c : JournalCall). low ≤ c.at))
 goes_on s before low (g ∷ gs) after high is =
     let rest = goes_on s (journal_after s before g) g.stamp.claims gs after high is.1 in
     let call : List JournalCall = option_to_list (call_given s before g) in
     let own = late_call s before g low is.0.claims (call_given s before g) refl in (
       call ++ rest.0,
       rest.1 ∙ append_assoc before call rest.0,
-      All-append (λ (c : JournalCall). low ≤ c.at) call rest.0 own (λ k d lt. let up = rest.2 k d lt in omega (arith, up, is.0.claims)),
+      All-append (λ (c : JournalCall). low ≤ c.at) call rest.0 own
+          (λ k d lt. let up = rest.2 k d lt in omega (arith, up, is.0.claims)),
     )
 
 -- ---- an answer at its place of the whole journal
 
-pub record IsAnswerAt (s : SetupParts) (journal : List JournalCall) (claims : ℕ) (g : Given) : Type 0 where
+pub record IsAnswerAt (s : SetupParts) (journal : List JournalCall) (claims : ℕ)
+    (g : Given) : Type 0 where
   pub place : IsPlace journal claims g.stamp
   pub reply_is : g.reply ≡ reply_at s journal g.stamp g.request
-  pub call : IfSome (call_of s (take g.stamp.calls journal) g.client g.stamp.claims g.request (reply_at s journal g.stamp g.request)) (λ call. slice_get journal g.stamp.calls ≡ Some call)
+  pub call : IfSome
+      (call_of s (take g.stamp.calls journal) g.client g.stamp.claims g.request
+      (reply_at s journal g.stamp g.request)) (λ call. slice_get journal g.stamp.calls ≡ Some call)
 
-slice_get_seam : {X : Type 0} (xs : List X) (y : X) (ys : List X) → slice_get (xs ++ y ∷ ys) (length xs) ≡ Some y
+slice_get_seam : {X : Type 0} (xs : List X) (y : X) (ys : List X)
+    → slice_get (xs ++ y ∷ ys) (length xs) ≡ Some y
 slice_get_seam [] y ys = refl
 slice_get_seam (x ∷ xs) y ys = slice_get_seam xs y ys
 
-its_call : (before more : List JournalCall) (o : Option JournalCall) → IfSome o (λ call. slice_get (before ++ (option_to_list o ++ more)) (length before) ≡ Some call)
+its_call : (before more : List JournalCall) (o : Option JournalCall)
+    → IfSome o (λ call. slice_get (before ++ (option_to_list o ++ more))
+    (length before) ≡ Some call)
 its_call before more None = tt
 its_call before more (Some call) = slice_get_seam before call more
 
-answer_at : (s : SetupParts) (before after more : List JournalCall) (low claims : ℕ) (g : Given) → IsGiven s before low g → IsLegalJournal s g.stamp.claims before
-    → after ≡ before ++ (option_to_list (call_given s before g) ++ more) → g.stamp.claims ≤ claims → All (λ c. g.stamp.claims ≤ c.at) more → IsAnswerAt s after claims g
+answer_at : (s : SetupParts) (before after more : List JournalCall) (low claims : ℕ) (g : Given)
+    → IsGiven s before low g → IsLegalJournal s g.stamp.claims before
+    → after ≡ before ++ (option_to_list (call_given s before g) ++ more) → g.stamp.claims ≤ claims
+    → All (λ c. g.stamp.claims ≤ c.at) more → IsAnswerAt s after claims g
 answer_at s before after more low claims g is legal whole le late =
     let o : Option JournalCall = call_given s before g in
     let back : List JournalCall = option_to_list o ++ more in
     let front : take g.stamp.calls after ≡ before =
-    ap (λ (n : ℕ). take n after) is.calls ∙ ap (take (length before)) whole ∙ take-append_seam before back in
+    ap (λ (n : ℕ). take n after) is.calls ∙ ap (take (length before)) whole
+    ∙ take-append_seam before back in
     let rest : drop g.stamp.calls after ≡ back =
-    ap (λ (n : ℕ). drop n after) is.calls ∙ ap (drop (length before)) whole ∙ drop-append_seam before back in
-    let same : call_of s (take g.stamp.calls after) g.client g.stamp.claims g.request (reply_at s after g.stamp g.request) ≡ o =
-    ap (λ (j : List JournalCall). call_of s j g.client g.stamp.claims g.request (reply_of s j g.stamp.claims g.request)) front
+    ap (λ (n : ℕ). drop n after) is.calls ∙ ap (drop (length before)) whole
+    ∙ drop-append_seam before back in
+    let same : call_of s (take g.stamp.calls after) g.client g.stamp.claims g.request
+    (reply_at s after g.stamp g.request) ≡ o =
+    ap (λ (j : List JournalCall).
+    call_of s j g.client g.stamp.claims g.request (reply_of s j g.stamp.claims g.request)) front
     ∙ ap (call_of s before g.client g.stamp.claims g.request) (sym is.reply_is) in
     record {
       place = record {
@@ -123,22 +159,33 @@ answer_at s before after more low claims g is legal whole le late =
         claims_within = le;
         before = subst (All (λ (c : JournalCall). c.at ≤ g.stamp.claims)) (sym front) legal.within;
         behind = subst (All (λ (c : JournalCall). g.stamp.claims ≤ c.at)) (sym rest)
-            (All-append (λ (c : JournalCall). g.stamp.claims ≤ c.at) (option_to_list o) more (late_call s before g g.stamp.claims (omega arith) o refl) late);
+            (All-append (λ (c : JournalCall). g.stamp.claims ≤ c.at) (option_to_list o) more
+            (late_call s before g g.stamp.claims (omega arith) o refl) late);
       };
-      reply_is = is.reply_is ∙ sym (ap (λ (j : List JournalCall). reply_of s j g.stamp.claims g.request) front);
-      call = subst (λ (x : Option JournalCall). IfSome x (λ call. slice_get after g.stamp.calls ≡ Some call)) (sym same)
+      reply_is = is.reply_is
+          ∙ sym (ap (λ (j : List JournalCall). reply_of s j g.stamp.claims g.request) front);
+      call = subst
+          (λ (x : Option JournalCall). IfSome x (λ call. slice_get after g.stamp.calls ≡ Some call))
+          (sym same)
           (subst (λ (n : ℕ). IfSome o (λ call. slice_get after n ≡ Some call)) (sym is.calls)
-          (subst (λ (j : List JournalCall). IfSome o (λ call. slice_get j (length before) ≡ Some call)) (sym whole) (its_call before more o)));
+          (subst (λ (j : List JournalCall).
+          IfSome o (λ call. slice_get j (length before) ≡ Some call)) (sym whole)
+          (its_call before more o)));
     }
 
-pub answers_at : (s : SetupParts) (before : List JournalCall) (low : ℕ) (given : List Given) (after : List JournalCall) (high : ℕ) → IsLegalJournal s low before → AreGiven s before low given after high
+pub answers_at : (s : SetupParts) (before : List JournalCall) (low : ℕ) (given : List Given)
+    (after : List JournalCall) (high : ℕ) → IsLegalJournal s low before
+    → AreGiven s before low given after high
     → AllByRecursion (IsAnswerAt s after high) given
 answers_at s before low [] after high legal is = tt
 answers_at s before low (g ∷ gs) after high legal is =
     let rest = goes_on s (journal_after s before g) g.stamp.claims gs after high is.1 in
-    let whole : after ≡ before ++ (option_to_list (call_given s before g) ++ rest.0) = rest.1 ∙ append_assoc before (option_to_list (call_given s before g)) rest.0 in
-    let next = given_legal s before low (g ∷ []) (journal_after s before g) g.stamp.claims legal (is.0, (refl, omega arith)) in (
-      answer_at s before after rest.0 low high g is.0 (legal_later s low g.stamp.claims before is.0.claims legal) whole
+    let whole : after ≡ before ++ (option_to_list (call_given s before g) ++ rest.0) =
+    rest.1 ∙ append_assoc before (option_to_list (call_given s before g)) rest.0 in
+    let next = given_legal s before low (g ∷ []) (journal_after s before g) g.stamp.claims legal
+    (is.0, (refl, omega arith)) in (
+      answer_at s before after rest.0 low high g is.0
+          (legal_later s low g.stamp.claims before is.0.claims legal) whole
           (given_below s (journal_after s before g) g.stamp.claims gs after high is.1) rest.2,
       answers_at s (journal_after s before g) g.stamp.claims gs after high next is.1,
     )
@@ -147,7 +194,8 @@ answers_at s before low (g ∷ gs) after high legal is =
 
 abbrev pub GoFrom : Stamp → List Given → Type 0
 GoFrom floor [] = Unit {0}
-GoFrom floor (g ∷ gs) = ((floor.calls ≤ g.stamp.calls) × (floor.claims ≤ g.stamp.claims)) × GoFrom (next_floor g.stamp (accepts g.reply)) gs
+GoFrom floor (g ∷ gs) = ((floor.calls ≤ g.stamp.calls) × (floor.claims ≤ g.stamp.claims))
+    × GoFrom (next_floor g.stamp (accepts g.reply)) gs
 
 floor_calls : (place : Stamp) (b : Bool) → (next_floor place b).calls ≡ place.calls + cond b 1 0
 floor_calls place true = refl
@@ -157,15 +205,21 @@ floor_claims : (place : Stamp) (b : Bool) → (next_floor place b).claims ≡ pl
 floor_claims place true = refl
 floor_claims place false = refl
 
-grown : {X : Type 0} (xs : List X) (o : Option X) → length (xs ++ option_to_list o) ≡ length xs + cond (is_some o) 1 0
+grown : {X : Type 0} (xs : List X) (o : Option X)
+    → length (xs ++ option_to_list o) ≡ length xs + cond (is_some o) 1 0
 grown xs None = length-append xs []
 grown xs (Some x) = length-append xs (x ∷ [])
 
-pub after_length : (s : SetupParts) (before : List JournalCall) (low : ℕ) (g : Given) → IsGiven s before low g → length (journal_after s before g) ≡ length before + cond (accepts g.reply) 1 0
-after_length s before low g is = grown before (call_given s before g) ∙ ap (λ (b : Bool). length before + cond b 1 0) (given_accepts s before low g is)
+pub after_length : (s : SetupParts) (before : List JournalCall) (low : ℕ) (g : Given)
+    → IsGiven s before low g → length (journal_after s before g)
+    ≡ length before + cond (accepts g.reply) 1 0
+after_length s before low g is = grown before (call_given s before g)
+    ∙ ap (λ (b : Bool). length before + cond b 1 0) (given_accepts s before low g is)
 
-pub go_from : (s : SetupParts) (before : List JournalCall) (low : ℕ) (given : List Given) (after : List JournalCall) (high : ℕ) → AreGiven s before low given after high
-    → (client : ℕ) (floor : Stamp) → floor.calls ≤ length before → floor.claims ≤ low → GoFrom floor (given_to client given)
+pub go_from : (s : SetupParts) (before : List JournalCall) (low : ℕ) (given : List Given)
+    (after : List JournalCall) (high : ℕ) → AreGiven s before low given after high
+    → (client : ℕ) (floor : Stamp) → floor.calls ≤ length before → floor.claims ≤ low
+    → GoFrom floor (given_to client given)
 go_from s before low [] after high is client floor calls claims = tt
 go_from s before low (g ∷ gs) after high is client floor calls claims =
     let long = after_length s before low g is.0 in
@@ -173,10 +227,14 @@ go_from s before low (g ∷ gs) after high is client floor calls claims =
       | inl own ↦
           rw own (
             (omega (arith, calls, is.0.calls), omega (arith, claims, is.0.claims)),
-            go_from s (journal_after s before g) g.stamp.claims gs after high is.1 client (next_floor g.stamp (accepts g.reply))
-                (omega (arith, floor_calls g.stamp (accepts g.reply), long, is.0.calls)) (omega (arith, floor_claims g.stamp (accepts g.reply))),
+            go_from s (journal_after s before g) g.stamp.claims gs after high is.1 client
+                (next_floor g.stamp (accepts g.reply))
+                (omega (arith, floor_calls g.stamp (accepts g.reply), long, is.0.calls))
+                (omega (arith, floor_claims g.stamp (accepts g.reply))),
           )
-      | inr other ↦ rw other (go_from s (journal_after s before g) g.stamp.claims gs after high is.1 client floor (omega (arith, calls, long)) (omega (arith, claims, is.0.claims)))
+      | inr other ↦
+          rw other (go_from s (journal_after s before g) g.stamp.claims gs after high is.1 client
+          floor (omega (arith, calls, long)) (omega (arith, claims, is.0.claims)))
     ]
 
 -- ---- the answers that made the call of a number
@@ -188,7 +246,9 @@ abbrev pub makers : ℕ → List Given → ℕ
 makers number [] = 0
 makers number (g ∷ gs) = cond (is_maker number g) 1 0 + makers number gs
 
-makers_cons : (number client : ℕ) (g : Given) (gs : List Given) → makers number (given_to client (g ∷ gs)) ≡ cond (eqb g.client client && is_maker number g) 1 0 + makers number (given_to client gs)
+makers_cons : (number client : ℕ) (g : Given) (gs : List Given)
+    → makers number (given_to client (g ∷ gs))
+    ≡ cond (eqb g.client client && is_maker number g) 1 0 + makers number (given_to client gs)
 makers_cons number client g gs = elim (cases_Bool (eqb g.client client)) [
   | inl own ↦ rw own refl
   | inr other ↦ rw other (omega arith)
@@ -198,44 +258,69 @@ both_miss : (a b : Bool) → b ≡ false → cond {A = ℕ} (a && b) 1 0 ≡ 0
 both_miss true b e = rw e refl
 both_miss false b e = refl
 
-makers_skip : (number client : ℕ) (g : Given) (gs : List Given) → is_maker number g ≡ false → makers number (given_to client (g ∷ gs)) ≡ makers number (given_to client gs)
-makers_skip number client g gs miss = omega (arith, makers_cons number client g gs, both_miss (eqb g.client client) (is_maker number g) miss)
+makers_skip : (number client : ℕ) (g : Given) (gs : List Given) → is_maker number g ≡ false
+    → makers number (given_to client (g ∷ gs)) ≡ makers number (given_to client gs)
+makers_skip number client g gs miss =
+    omega (
+      arith,
+      makers_cons number client g gs,
+      both_miss (eqb g.client client) (is_maker number g) miss,
+    )
 
 first_miss : (a b : Bool) → a ≡ false → (a && b) ≡ false
 first_miss a b e = rw e refl
 
-no_makers : (s : SetupParts) (before : List JournalCall) (low : ℕ) (given : List Given) (after : List JournalCall) (high : ℕ) → AreGiven s before low given after high
+no_makers : (s : SetupParts) (before : List JournalCall) (low : ℕ) (given : List Given)
+    (after : List JournalCall) (high : ℕ) → AreGiven s before low given after high
     → (number client : ℕ) → number < length before → makers number (given_to client given) ≡ 0
 no_makers s before low [] after high is number client lt = refl
 no_makers s before low (g ∷ gs) after high is number client lt =
-    let miss : is_maker number g ≡ false = first_miss (eqb g.stamp.calls number) (accepts g.reply) (ne_eqb g.stamp.calls number (λ e. omega (arith, e, is.0.calls, lt))) in
+    let miss : is_maker number g ≡ false =
+    first_miss (eqb g.stamp.calls number) (accepts g.reply)
+    (ne_eqb g.stamp.calls number (λ e. omega (arith, e, is.0.calls, lt))) in
     makers_skip number client g gs miss
-    ∙ no_makers s (journal_after s before g) g.stamp.claims gs after high is.1 number client (omega (arith, lt, after_length s before low g is.0))
+    ∙ no_makers s (journal_after s before g) g.stamp.claims gs after high is.1 number client
+    (omega (arith, lt, after_length s before low g is.0))
 
 -- where an answer made the call of the number, no later one did
-made_here : (s : SetupParts) (before : List JournalCall) (low : ℕ) (g : Given) (gs : List Given) (after : List JournalCall) (high : ℕ) → AreGiven s before low (g ∷ gs) after high
-    → (number client : ℕ) (call made : JournalCall) → number ≡ length before → slice_get after number ≡ Some call → call_given s before g ≡ Some made
+made_here : (s : SetupParts) (before : List JournalCall) (low : ℕ) (g : Given) (gs : List Given)
+    (after : List JournalCall) (high : ℕ) → AreGiven s before low (g ∷ gs) after high
+    → (number client : ℕ) (call made : JournalCall) → number ≡ length before
+    → slice_get after number ≡ Some call → call_given s before g ≡ Some made
     → makers number (given_to client (g ∷ gs)) ≡ cond (eqb client call.client) 1 0
 made_here s before low g gs after high is number client call made here at e =
     let rest = goes_on s (journal_after s before g) g.stamp.claims gs after high is.1 in
     let whole : after ≡ before ++ made ∷ rest.0 =
-    rest.1 ∙ append_assoc before (option_to_list (call_given s before g)) rest.0 ∙ ap (λ (o : Option JournalCall). before ++ (option_to_list o ++ rest.0)) e in
+    rest.1 ∙ append_assoc before (option_to_list (call_given s before g)) rest.0
+    ∙ ap (λ (o : Option JournalCall). before ++ (option_to_list o ++ rest.0)) e in
     let there : Some made ≡ Some call =
-    sym (slice_get_seam before made rest.0) ∙ sym (ap (λ (j : List JournalCall). slice_get j (length before)) whole) ∙ sym (ap (slice_get after) here) ∙ at in
+    sym (slice_get_seam before made rest.0)
+    ∙ sym (ap (λ (j : List JournalCall). slice_get j (length before)) whole)
+    ∙ sym (ap (slice_get after) here) ∙ at in
     let same : made ≡ call = cc in
-    let by : call.client ≡ g.client = sym (ap (λ (c : JournalCall). c.client) same) ∙ (call_parts s before g.client g.stamp.claims g.request g.reply made e).by in
+    let by : call.client ≡ g.client =
+    sym (ap (λ (c : JournalCall). c.client) same)
+    ∙ (call_parts s before g.client g.stamp.claims g.request g.reply made e).by in
     let some : accepts g.reply ≡ true = sym (given_accepts s before low g is.0) ∙ ap is_some e in
-    let hit : is_maker number g ≡ true = rw (eq-eqb g.stamp.calls number (omega (arith, is.0.calls, here)), some) refl in
-    let none = no_makers s (journal_after s before g) g.stamp.claims gs after high is.1 number client (omega (arith, here, after_length s before low g is.0, ap (λ (b : Bool). cond {A = ℕ} b 1 0) some)) in
+    let hit : is_maker number g ≡ true =
+    rw (eq-eqb g.stamp.calls number (omega (arith, is.0.calls, here)), some) refl in
+    let none = no_makers s (journal_after s before g) g.stamp.claims gs after high is.1 number
+    client (omega
+    (arith, here, after_length s before low g is.0, ap (λ (b : Bool). cond {A = ℕ} b 1 0) some)) in
     elim (cases_Bool (eqb g.client client)) [
       | inl own ↦
-          let its : eqb client call.client ≡ true = eq-eqb client call.client (sym (eqb-true g.client client own) ∙ sym by) in
-          let one : cond {A = ℕ} (eqb g.client client && is_maker number g) 1 0 ≡ 1 = rw (own, hit) refl in
+          let its : eqb client call.client ≡ true =
+          eq-eqb client call.client (sym (eqb-true g.client client own) ∙ sym by) in
+          let one : cond {A = ℕ} (eqb g.client client && is_maker number g) 1 0 ≡ 1 =
+          rw (own, hit) refl in
           let right : cond {A = ℕ} (eqb client call.client) 1 0 ≡ 1 = rw its refl in
           omega (arith, makers_cons number client g gs, one, none, right)
       | inr other ↦
-          let off : eqb client call.client ≡ false = ne_eqb client call.client (λ x. false≢true (sym other ∙ eq-eqb g.client client (sym by ∙ sym x))) in
-          let zero_one : cond {A = ℕ} (eqb g.client client && is_maker number g) 1 0 ≡ 0 = rw other refl in
+          let off : eqb client call.client ≡ false =
+          ne_eqb client call.client
+          (λ x. false≢true (sym other ∙ eq-eqb g.client client (sym by ∙ sym x))) in
+          let zero_one : cond {A = ℕ} (eqb g.client client && is_maker number g) 1 0 ≡ 0 =
+          rw other refl in
           let right : cond {A = ℕ} (eqb client call.client) 1 0 ≡ 0 = rw off refl in
           omega (arith, makers_cons number client g gs, zero_one, none, right)
     ]
@@ -244,28 +329,48 @@ at_most_one : (b : Bool) → cond {A = ℕ} b 1 0 ≤ 1
 at_most_one true = omega arith
 at_most_one false = omega arith
 
-further_after : (s : SetupParts) (before : List JournalCall) (low : ℕ) (g : Given) (number : ℕ) → IsGiven s before low g → length before < number → length (journal_after s before g) ≤ number
-further_after s before low g number is lt = omega (arith, lt, after_length s before low g is, at_most_one (accepts g.reply))
+further_after : (s : SetupParts) (before : List JournalCall) (low : ℕ) (g : Given) (number : ℕ)
+    → IsGiven s before low g → length before < number → length (journal_after s before g) ≤ number
+further_after s before low g number is lt =
+    omega (arith, lt, after_length s before low g is, at_most_one (accepts g.reply))
 
-made_or_not : (s : SetupParts) (before : List JournalCall) (low : ℕ) (g : Given) (gs : List Given) (after : List JournalCall) (high : ℕ) → AreGiven s before low (g ∷ gs) after high
-    → (number client : ℕ) (call : JournalCall) → number ≡ length before → slice_get after number ≡ Some call → (o : Option JournalCall) → call_given s before g ≡ o
-    → (length (journal_after s before g) ≤ number → makers number (given_to client gs) ≡ cond (eqb client call.client) 1 0)
+made_or_not : (s : SetupParts) (before : List JournalCall) (low : ℕ) (g : Given) (gs : List Given)
+    (after : List JournalCall) (high : ℕ) → AreGiven s before low (g ∷ gs) after high
+    → (number client : ℕ) (call : JournalCall) → number ≡ length before
+    → slice_get after number ≡ Some call → (o : Option JournalCall) → call_given s before g ≡ o
+    → (length (journal_after s before g) ≤ number
+    → makers number (given_to client gs) ≡ cond (eqb client call.client) 1 0)
     → makers number (given_to client (g ∷ gs)) ≡ cond (eqb client call.client) 1 0
-made_or_not s before low g gs after high is number client call here at (Some made) e rest = made_here s before low g gs after high is number client call made here at e
+made_or_not s before low g gs after high is number client call here at (Some made) e rest =
+    made_here s before low g gs after high is number client call made here at e
 made_or_not s before low g gs after high is number client call here at None e rest =
     let none : accepts g.reply ≡ false = sym (given_accepts s before low g is.0) ∙ ap is_some e in
-    let same : length (journal_after s before g) ≡ length before = after_length s before low g is.0 ∙ ap (λ (b : Bool). length before + cond b 1 0) none ∙ (omega arith) in
-    makers_skip number client g gs (and_right (eqb g.stamp.calls number) (accepts g.reply) none) ∙ rest (omega (arith, same, here))
+    let same : length (journal_after s before g) ≡ length before =
+    after_length s before low g is.0 ∙ ap (λ (b : Bool). length before + cond b 1 0) none
+    ∙ (omega arith) in
+    makers_skip number client g gs (and_right (eqb g.stamp.calls number) (accepts g.reply) none)
+    ∙ rest (omega (arith, same, here))
 
 -- the call of each number behind these was made by one answer, which is one of its own client
-pub one_maker : (s : SetupParts) (before : List JournalCall) (low : ℕ) (given : List Given) (after : List JournalCall) (high : ℕ) → AreGiven s before low given after high
-    → (number client : ℕ) (call : JournalCall) → length before ≤ number → slice_get after number ≡ Some call → makers number (given_to client given) ≡ cond (eqb client call.client) 1 0
-one_maker s before low [] after high is number client call le at = absurd (omega (arith, le, slice_get_within after number call at, ap length is.0))
-one_maker s before low (g ∷ gs) after high is number client call le at = elim (cases_lt (length before) number) [
-  | inl further ↦
-      let miss : is_maker number g ≡ false = first_miss (eqb g.stamp.calls number) (accepts g.reply) (ne_eqb g.stamp.calls number (λ e. omega (arith, e, is.0.calls, further))) in
-      makers_skip number client g gs miss
-      ∙ one_maker s (journal_after s before g) g.stamp.claims gs after high is.1 number client call (further_after s before low g number is.0 further) at
-  | inr near ↦ made_or_not s before low g gs after high is number client call (omega (arith, near, le)) at (call_given s before g) refl
-      (λ short. one_maker s (journal_after s before g) g.stamp.claims gs after high is.1 number client call short at)
-]
+pub one_maker : (s : SetupParts) (before : List JournalCall) (low : ℕ) (given : List Given)
+    (after : List JournalCall) (high : ℕ) → AreGiven s before low given after high
+    → (number client : ℕ) (call : JournalCall) → length before ≤ number
+    → slice_get after number ≡ Some call
+    → makers number (given_to client given) ≡ cond (eqb client call.client) 1 0
+one_maker s before low [] after high is number client call le at =
+    absurd (omega (arith, le, slice_get_within after number call at, ap length is.0))
+one_maker s before low (g ∷ gs) after high is number client call le at =
+    elim (cases_lt (length before) number) [
+      | inl further ↦
+          let miss : is_maker number g ≡ false =
+          first_miss (eqb g.stamp.calls number) (accepts g.reply)
+          (ne_eqb g.stamp.calls number (λ e. omega (arith, e, is.0.calls, further))) in
+          makers_skip number client g gs miss
+          ∙ one_maker s (journal_after s before g) g.stamp.claims gs after high is.1
+          number client call
+          (further_after s before low g number is.0 further) at
+      | inr near ↦ made_or_not s before low g gs after high is number client call
+          (omega (arith, near, le)) at (call_given s before g) refl
+          (λ short. one_maker s (journal_after s before g) g.stamp.claims gs after high is.1 number
+          client call short at)
+    ]

@@ -1,5 +1,5 @@
 -- Blocks that are not there.
-use Rattle.std.proofs.Common.{◌≡◌, false, true, Option, None, Some, refl, sym}
+use Rattle.std.proofs.Common.{◌≡◌, false, Option, None, Some, refl, sym}
 use Rattle.std.specs.Prelude.{is_some}
 use Rattle.std.proofs.lemmas.Bool.{false≢true}
 

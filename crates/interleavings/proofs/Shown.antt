@@ -1,5 +1,6 @@
 -- Flags and packets by a row.
-use Rattle.std.proofs.Common.{◌≡◌, ℕ, ◌<◌, Bool, true, false, List, [], length, map, refl, sym, ap, ◌∙◌, arith, zero-add, ℤ}
+use Rattle.std.proofs.Common.{◌≡◌, ℕ, ◌<◌, Bool, true, false, List, [], length, map, sym, ap}
+use Rattle.std.proofs.Common.{◌∙◌, arith, zero-add, ℤ}
 use Rattle.std.specs.Prelude.{◌&&◌, if◌then◌else◌, is_some, IfNone, Option, Some, None}
 use Rattle.std.specs.List.{range_with_len}
 use Rattle.std.specs.Option.{unwrap_or}
@@ -14,7 +15,6 @@ use Rattle.packet_writer.specs.Flags.{is_named}
 use Rattle.packet_writer.specs.Heard.{HasFrames}
 use Rattle.packet_writer.specs.Packet.{Blocks, claim_rows, flag_of, output_of_claim, packet_by}
 use Rattle.plain_book.specs.declared.calls.JournalCall.{JournalCall}
-use Rattle.plain_book.specs.declared.history.ClaimItem.{ClaimItem}
 use Rattle.plain_book.specs.History.{claim_item}
 use Rattle.plain_book.specs.Journal.{entries_of}
 use Rattle.plain_book.specs.Time.{tick_of_claim}
@@ -23,7 +23,8 @@ use Rattle.interleavings.specs.Run.{claim_with, seen_flags}
 use Rattle.interleavings.proofs.Ranging.{alike}
 
 -- a flag by what was marked and what a look saw
-pub flag_is : (named there flag marked : Bool) → marked ≡ named → (marked ≡ true → flag ≡ there) → (marked ≡ false → flag ≡ false)
+pub flag_is : (named there flag marked : Bool) → marked ≡ named → (marked ≡ true → flag ≡ there)
+    → (marked ≡ false → flag ≡ false)
     → flag ≡ (named && there)
 flag_is true there flag marked is seen other = seen is
 flag_is false there flag marked is seen other = other is
@@ -34,37 +35,49 @@ when_none None none holds = holds
 when_none (Some a) none holds = absurd (false≢true (sym none))
 
 -- flags that are these at each input
-pub flags_are : (f : ℕ → Bool) (n : ℕ) (made : List Bool) → length made ≡ n → ((i : ℕ) → i < n → flag_of made i ≡ f i)
+pub flags_are : (f : ℕ → Bool) (n : ℕ) (made : List Bool) → length made ≡ n
+    → ((i : ℕ) → i < n → flag_of made i ≡ f i)
     → made ≡ map f (range_with_len 0 n)
 flags_are f n made long each =
-    ext_get_or false made (map f (range_with_len 0 n)) (long ∙ sym (length-map-range_with_len f 0 n))
+    ext_get_or false made (map f (range_with_len 0 n))
+    (long ∙ sym (length-map-range_with_len f 0 n))
     (λ i within.
     let lt : i < n = omega (arith, within, long) in
     each i lt ∙ sym (get_or-map-range_with_len f 0 n i i false lt (zero-add i)))
 
 -- the row that is selected for a claim rules all frames
-pub rows_are : (s : SetupParts) (entries : List Entry) (k output tick : ℕ) (row : List Cell) → selected entries output tick ≡ Some row
+pub rows_are : (s : SetupParts) (entries : List Entry) (k output tick : ℕ) (row : List Cell)
+    → selected entries output tick ≡ Some row
     → output ≡ output_of_claim s k → tick ≡ tick_of_claim s k → HasRow s entries k row
 rows_are s entries k output tick row is out at frame =
     ap (λ (r : Option (List Cell)). unwrap_or r [])
-    (ap (λ (t : ℕ). selected entries (output_of_claim s k) t) (sym at) ∙ ap (λ (o : ℕ). selected entries o tick) (sym out) ∙ is)
+    (ap (λ (t : ℕ). selected entries (output_of_claim s k) t) (sym at)
+    ∙ ap (λ (o : ℕ). selected entries o tick) (sym out) ∙ is)
 
 -- the block that was found has all frames where each block has
-pub found_whole : (channels frames : ℕ) (flag : Bool) (block : Option (List ℤ)) → HasFrames block channels frames
+pub found_whole : (channels frames : ℕ) (flag : Bool) (block : Option (List ℤ))
+    → HasFrames block channels frames
     → HasFrames (if flag then block else None) channels frames
 found_whole channels frames true block has = has
 found_whole channels frames false block has = tt
 
 -- a claim of these flags and this packet, by a journal
-pub claim_is : (s : SetupParts) (journal : List JournalCall) (blocks : Blocks) (seen : List Bool) (k : ℕ) (row : List Cell) (found : List Bool)
+pub claim_is : (s : SetupParts) (journal : List JournalCall) (blocks : Blocks) (seen : List Bool)
+    (k : ℕ) (row : List Cell) (found : List Bool)
     (packet : List ℕ)
     → HasRow s (entries_of s journal) k row
-    → found ≡ map (λ input. is_named s.device.rate.frames (λ frame. row) input && flag_of seen input) (range_with_len 0 (length s.device.inputs))
+    → found ≡ map
+    (λ input. is_named s.device.rate.frames (λ frame. row) input && flag_of seen input)
+    (range_with_len 0 (length s.device.inputs))
     → packet ≡ packet_by s (entries_of s journal) blocks found k
-    → claim_item k found packet ≡ claim_with s journal blocks k (seen_flags s journal (flag_of seen) k)
+    → claim_item k found packet
+    ≡ claim_with s journal blocks k (seen_flags s journal (flag_of seen) k)
 claim_is s journal blocks seen k row found packet rows flags text =
     let n = length s.device.inputs in
-    let own : (λ (frame : ℕ). row) ≡ claim_rows s (entries_of s journal) k = alike (λ (frame : ℕ). sym (rows frame)) in
+    let own : (λ (frame : ℕ). row) ≡ claim_rows s (entries_of s journal) k =
+    alike (λ (frame : ℕ). sym (rows frame)) in
     let flags_same : found ≡ seen_flags s journal (flag_of seen) k =
-    flags ∙ ap (λ (r : ℕ → List Cell). map (λ input. is_named s.device.rate.frames r input && flag_of seen input) (range_with_len 0 n)) own in
+    flags ∙ ap (λ (r : ℕ → List Cell).
+    map (λ input. is_named s.device.rate.frames r input && flag_of seen input) (range_with_len 0 n))
+    own in
     ap (claim_item k found) text ∙ ap (claim_with s journal blocks k) flags_same

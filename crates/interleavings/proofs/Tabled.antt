@@ -10,7 +10,9 @@ use Rattle.interleavings.specs.Steps.{EndsTable, HasOver}
 pub below_is : (x bound : ℕ) → once_below x bound ≡ (if nat_lt x bound then 1 else 0)
 below_is x bound = grind (arith)
 
-pub ended : (s : SetupParts) (from packets : ℕ) (list : List Entry) (draws : List Draw) → EndsTable s from packets list draws → HasOver packets draws → IsEnded s from packets list draws
+pub ended : (s : SetupParts) (from packets : ℕ) (list : List Entry) (draws : List Draw)
+    → EndsTable s from packets list draws → HasOver packets draws
+    → IsEnded s from packets list draws
 ended s from packets list draws ends over = record {
   drawn = ends.drawn;
   good = ends.good;
@@ -18,7 +20,8 @@ ended s from packets list draws ends over = record {
   full = elim (cases_lt over.number ends.drawn) [
     | inl drawn ↦ omega (arith, drawn, over.late)
     | inr not_drawn ↦
-        let none : once_below over.number ends.drawn ≡ 0 = below_is over.number ends.drawn ∙ rw (le-ltb over.number ends.drawn not_drawn) refl in
+        let none : once_below over.number ends.drawn ≡ 0 =
+        below_is over.number ends.drawn ∙ rw (le-ltb over.number ends.drawn not_drawn) refl in
         absurd (let t = ends.once over.number in omega (arith, t, none, over.there))
   ];
 }

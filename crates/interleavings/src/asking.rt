@@ -122,21 +122,19 @@ fn keep(journal: &mut Journal, asked: &[JournalCall], count: usize, request: Req
 /// A client asks the book.
 pub(crate) fn call(
     session: &Session,
-    events: &[Event],
+    _events: &[Event],
     facts: &mut Facts,
     client: u8,
     request: &Request,
 ) -> Result<Answer, NoMemory>
-    requires core { IsCore session.now events.now facts.old }
+    requires core { IsCore session.now _events.now facts.old }
     requires range { IsInRange session.now.setup session.now.workers (ByCall client request.now) }
     ensures answer { IfOk result (λ a. a
-        ≡ next_answer session.now events.now (ByCall client request.now)) }
+        ≡ next_answer session.now _events.now (ByCall client request.now)) }
     ensures core { OnOk result
-        (IsCore session.now (events.now ++ ByCall client request.now ∷ []) facts.new) }
-    ensures err { OnErr result (IsCore session.now events.now facts.new) }
+        (IsCore session.now (_events.now ++ ByCall client request.now ∷ []) facts.new) }
+    ensures err { OnErr result (IsCore session.now _events.now facts.new) }
 {
-    // The premise names them.
-    let _ = events;
     let calls = facts.history.journal.len();
     let copy = request.copy()?;
     // The call's place is made before the book is asked, so that nothing fails afterwards.

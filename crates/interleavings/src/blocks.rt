@@ -26,8 +26,7 @@ pub(crate) fn no_blocks(alloc: Global, inputs: u8) -> Result<BlockTable, NoMemor
     ensures none { IfOk result (λ made. (input tick : ℕ) → set_at made.items input tick ≡ None) }
 {
     let mut made = Vec::new(alloc);
-    for input in 0..inputs {
-        let _ = input;
+    for _ in 0..inputs {
         made.push(BTreeMap::new(alloc))?;
     }
     Ok(made)

@@ -17,8 +17,7 @@ pub(crate) fn no_flags(alloc: Global, inputs: u8) -> Result<Flags, NoMemory>
     ensures { IfOk result (λ made. made ≡ repeated false inputs) }
 {
     let mut made = Flags::new(alloc);
-    for input in 0..inputs {
-        let _ = input;
+    for _ in 0..inputs {
         made.push(false)?;
     }
     Ok(made)
@@ -29,8 +28,7 @@ fn no_closings(alloc: Global, inputs: u8) -> Result<ListOf<u64>, NoMemory>
     ensures { IfOk result (λ made. made ≡ repeated 0 inputs) }
 {
     let mut made = ListOf::new(alloc);
-    for input in 0..inputs {
-        let _ = input;
+    for _ in 0..inputs {
         made.push(0)?;
     }
     Ok(made)
@@ -51,8 +49,7 @@ fn no_sights(alloc: Global, inputs: u8, workers: u8) -> Result<ListOf<Sight>, No
     ensures { IfOk result (λ made. made ≡ repeated (no_sight inputs) workers) }
 {
     let mut made = ListOf::new(alloc);
-    for worker in 0..workers {
-        let _ = worker;
+    for _ in 0..workers {
         made.push(no_sight(alloc, inputs)?)?;
     }
     Ok(made)

@@ -53,18 +53,16 @@ fn sight_at(facts: &Facts, worker: u8) -> &Sight
 /// A worker draws the next claim.
 pub(crate) fn claim(
     session: &Session,
-    events: &[Event],
+    _events: &[Event],
     facts: &mut Facts,
     worker: u8,
 ) -> Result<Answer, NoMemory>
-    requires core { IsCore session.now events.now facts.old }
+    requires core { IsCore session.now _events.now facts.old }
     requires range { IsInRange session.now.setup session.now.workers (ByClaim worker) }
-    ensures answer { IfOk result (λ a. a ≡ next_answer session.now events.now (ByClaim worker)) }
-    ensures core { OnOk result (IsCore session.now (events.now ++ ByClaim worker ∷ []) facts.new) }
-    ensures err { OnErr result (IsCore session.now events.now facts.new) }
+    ensures answer { IfOk result (λ a. a ≡ next_answer session.now _events.now (ByClaim worker)) }
+    ensures core { OnOk result (IsCore session.now (_events.now ++ ByClaim worker ∷ []) facts.new) }
+    ensures err { OnErr result (IsCore session.now _events.now facts.new) }
 {
-    // The premise names them.
-    let _ = events;
     let k = facts.desk.claims();
     if k >= session.ticks * u64::from(session.setup.device.outputs()) {
         return Ok(Answer::Over);
@@ -103,21 +101,19 @@ fn saw(
 /// A worker looks for the block of an input.
 pub(crate) fn look(
     session: &Session,
-    events: &[Event],
+    _events: &[Event],
     facts: &mut Facts,
     worker: u8,
     input: u8,
 ) -> Result<Answer, NoMemory>
-    requires core { IsCore session.now events.now facts.old }
+    requires core { IsCore session.now _events.now facts.old }
     requires range { IsInRange session.now.setup session.now.workers (ByLook worker input) }
     ensures answer { IfOk result (λ a. a
-        ≡ next_answer session.now events.now (ByLook worker input)) }
+        ≡ next_answer session.now _events.now (ByLook worker input)) }
     ensures core { OnOk result
-        (IsCore session.now (events.now ++ ByLook worker input ∷ []) facts.new) }
-    ensures err { OnErr result (IsCore session.now events.now facts.new) }
+        (IsCore session.now (_events.now ++ ByLook worker input ∷ []) facts.new) }
+    ensures err { OnErr result (IsCore session.now _events.now facts.new) }
 {
-    // The premise names them.
-    let _ = events;
     let sight = sight_at(facts, worker);
     let k = match sight.latest {
         None => return Ok(Answer::Nothing),
@@ -143,24 +139,22 @@ fn closing_at(facts: &Facts, input: u8) -> u64
 
 /// A feeder sets a block.
 pub(crate) fn set(
-    session: &Session,
-    events: &[Event],
+    _session: &Session,
+    _events: &[Event],
     facts: &mut Facts,
     input: u8,
     tick: u64,
     block: &Block,
 ) -> Result<Answer, NoMemory>
-    requires core { IsCore session.now events.now facts.old }
-    requires range { IsInRange session.now.setup session.now.workers (BySet input tick block.now) }
+    requires core { IsCore _session.now _events.now facts.old }
+    requires range { IsInRange _session.now.setup _session.now.workers
+        (BySet input tick block.now) }
     ensures answer { IfOk result (λ a. a
-        ≡ next_answer session.now events.now (BySet input tick block.now)) }
+        ≡ next_answer _session.now _events.now (BySet input tick block.now)) }
     ensures core { OnOk result
-        (IsCore session.now (events.now ++ BySet input tick block.now ∷ []) facts.new) }
-    ensures err { OnErr result (IsCore session.now events.now facts.new) }
+        (IsCore _session.now (_events.now ++ BySet input tick block.now ∷ []) facts.new) }
+    ensures err { OnErr result (IsCore _session.now _events.now facts.new) }
 {
-    // The premise names them.
-    let _ = session;
-    let _ = events;
     if has_block(facts.blocks.as_slice(), input, tick) {
         return Ok(Answer::AlreadySet);
     }
@@ -173,20 +167,17 @@ pub(crate) fn set(
 
 /// A feeder closes the ticks of an input below a number.
 pub(crate) fn close(
-    session: &Session,
-    events: &[Event],
+    _session: &Session,
+    _events: &[Event],
     facts: &mut Facts,
     input: u8,
     upto: u64,
 ) -> Answer
-    requires core { IsCore session.now events.now facts.old }
-    requires range { IsInRange session.now.setup session.now.workers (ByClose input upto) }
-    ensures answer { result ≡ next_answer session.now events.now (ByClose input upto) }
-    ensures core { IsCore session.now (events.now ++ ByClose input upto ∷ []) facts.new }
+    requires core { IsCore _session.now _events.now facts.old }
+    requires range { IsInRange _session.now.setup _session.now.workers (ByClose input upto) }
+    ensures answer { result ≡ next_answer _session.now _events.now (ByClose input upto) }
+    ensures core { IsCore _session.now (_events.now ++ ByClose input upto ∷ []) facts.new }
 {
-    // The premise names them.
-    let _ = session;
-    let _ = events;
     let last = closing_at(facts, input);
     facts.closings.set(input as usize, last.max(upto));
     Answer::Done

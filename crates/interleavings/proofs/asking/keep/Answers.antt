@@ -1,5 +1,5 @@
 use Rattle.std.proofs.Common.{◌≡◌, ◌∙◌, ap, sym, set, refl, Some}
-use Rattle.std.specs.Prelude.{slice_get, IfSome}
+use Rattle.std.specs.Prelude.{slice_get}
 use Rattle.std.proofs.lemmas.Option.{slice_get_read}
 use Rattle.plain_book.specs.Calls.{journal_call}
 use Rattle.plain_book.specs.declared.calls.JournalCall.{JournalCall}
@@ -13,9 +13,11 @@ returns-then-count-asked c =
     let journal = c.args.journal.now in
     let asked = c.args.asked.now in
     let n = c.args.count in
-    let got : slice_get asked n ≡ Some last = slice_get_read asked _ n _ refl c.if-count-asked.true c.index-asked-count.is in
+    let got : slice_get asked n ≡ Some last =
+    slice_get_read asked _ n _ refl c.if-count-asked.true c.index-asked-count.is in
     let same : last.request ≡ c.args.request = rw got at c.requires.last in
-    let call_is : c.new-call.result ≡ last = c.new-call.ensures ∙ ap (λ (r : Request). journal_call last.at last.client last.id last.tick r)
+    let call_is : c.new-call.result ≡ last =
+    c.new-call.ensures ∙ ap (λ (r : Request). journal_call last.at last.client last.id last.tick r)
     (sym same) in
     c.set.ensures ∙ ap (λ (x : JournalCall). set journal n x) call_is
     ∙ put_right journal asked n last c.requires.long c.requires.few c.requires.same got

@@ -1,4 +1,5 @@
-use Rattle.interleavings.proofs.Gathered.{closed_item, free_item, known, worked_more, worked_over, worked_still}
+use Rattle.interleavings.proofs.Gathered.{closed_item, free_item, known, worked_more, worked_over}
+use Rattle.interleavings.proofs.Gathered.{worked_still}
 use Rattle.interleavings.proofs.headline.packets_are_claims.Goals as goal
 
 pub returns-clause-closed : goal.returns-clause-closed

@@ -16,7 +16,8 @@ returns-clause-each c = λ i there.
     let look = c.look_at_marked-untold.ensures in
     let here = flag_of c.args.seen.now i in
     let frames : c.rate.result.frames ≡ n =
-    ap (λ (r : Rate). r.frames) c.rate.ensures.value ∙ ap (λ (x : SetupParts). x.device.rate.frames) c.setup.view_is in
+    ap (λ (r : Rate). r.frames) c.rate.ensures.value
+    ∙ ap (λ (x : SetupParts). x.device.rate.frames) c.setup.view_is in
     let flags = c.mark_named.new.flags in
     let found = c.look_at_marked-untold.new.flags in
     let after = c.look_at_marked-untold.new.looks in
@@ -26,9 +27,11 @@ returns-clause-each c = λ i there.
     c.mark_named.ensures.each i lt ∙ ap (λ (m : ℕ). is_named m (λ f. c.new.result.row.now) i) frames
     ∙ ap (λ (r : List Cell). is_named n (λ f. r) i) (c.new.ensures.row 0) in
     let told = c.is_none.ensures ∙ ap not c.if-prove.false in
-    let set_told : (j : ℕ) → j < length flags → flag_of flags j ≡ true → flag_of found j ≡ flag_of after.flags.now j =
+    let set_told : (j : ℕ) → j < length flags → flag_of flags j ≡ true
+    → flag_of found j ≡ flag_of after.flags.now j =
     when_none c.look_at_marked-untold.result told look.marked in
-    let unset_told : (j : ℕ) → j < length flags → flag_of flags j ≡ false → flag_of found j ≡ false =
+    let unset_told : (j : ℕ) → j < length flags → flag_of flags j ≡ false
+    → flag_of found j ≡ false =
     when_none c.look_at_marked-untold.result told look.other in
     let seen = look.kept i here refl in
     flag_is (is_named n (λ f. row) i) here (flag_of found i) (flag_of flags i) marked

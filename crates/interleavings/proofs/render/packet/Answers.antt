@@ -10,15 +10,23 @@ use Rattle.interleavings.proofs.render.packet.Goals as goal
 pub write_claim-requires-clause-rows : goal.write_claim-requires-clause-rows
 write_claim-requires-clause-rows c =
     let d = c.args.setup.now.device in
-    c.new.ensures.fits d.inputs (channels_of_output d (output_of_claim c.args.setup.now c.args.k)) d.rate.frames c.requires.row
+    c.new.ensures.fits d.inputs (channels_of_output d (output_of_claim c.args.setup.now c.args.k))
+    d.rate.frames c.requires.row
 
 pub write_claim-requires-clause-blocks : goal.write_claim-requires-clause-blocks
 write_claim-requires-clause-blocks c = λ b agrees input.
     let s = c.args.setup.now in
     let tick = tick_of_claim s c.args.k in
     let block = set_at c.args.table.now input tick in
-    rw (agrees input, c.new-blocks.ensures.table, c.new-blocks.ensures.found, c.new-blocks.ensures.tick, c.tick_of.ensures)
-    (found_whole (channels_of s.device.inputs input) s.device.rate.frames (flag_of c.args.found.now input) block (c.requires.blocks input tick))
+    rw (
+      agrees input,
+      c.new-blocks.ensures.table,
+      c.new-blocks.ensures.found,
+      c.new-blocks.ensures.tick,
+      c.tick_of.ensures,
+    )
+    (found_whole (channels_of s.device.inputs input) s.device.rate.frames
+    (flag_of c.args.found.now input) block (c.requires.blocks input tick))
 
 pub returns : goal.returns
 returns c = λ entries row.
@@ -27,8 +35,15 @@ returns c = λ entries row.
     let source = c.write_claim.new.source in
     let b = found_block (set_at source.table.now) source.found.now source.tick in
     let agrees = c.write_claim.ensures.kept b (λ i. refl) in
-    let same : (i : ℕ) → b i ≡ found_block (set_at c.args.table.now) c.args.found.now (tick_of_claim s k) i =
-    λ i. agrees i ∙ rw (c.new-blocks.ensures.table, c.new-blocks.ensures.found, c.new-blocks.ensures.tick, c.tick_of.ensures) refl in
+    let same : (i : ℕ)
+    → b i ≡ found_block (set_at c.args.table.now) c.args.found.now (tick_of_claim s k) i =
+    λ i. agrees i
+    ∙ rw (
+      c.new-blocks.ensures.table,
+      c.new-blocks.ensures.found,
+      c.new-blocks.ensures.tick,
+      c.tick_of.ensures,
+    ) refl in
     c.from_vec.ensures ∙ take_at c.write_claim.new.out _ c.in_ok-made.made.len (search rules)
     ∙ c.write_claim.ensures.text b (λ i. refl) entries (set_at c.args.table.now) c.args.found.now
     (λ frame lt. c.new.ensures.row frame ∙ sym (row frame))

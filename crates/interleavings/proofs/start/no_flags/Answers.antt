@@ -2,7 +2,8 @@ use Rattle.std.proofs.Common.{false, List, Bool, [], ◌∷◌, ◌++◌, ℕ, a
 use Rattle.std.proofs.lemmas.List.FromFn.{map-range_with_len_more}
 use Rattle.interleavings.proofs.start.no_flags.Goals as goal
 
-pub loop-input-preserved : goal.loop-input-preserved
-loop-input-preserved c =
-    c.in_ok-push.ensures.ok ∙ ap (λ (xs : List Bool). xs ++ false ∷ []) c.loop-input.invariant
-    ∙ sym (map-range_with_len_more (λ (input : ℕ). false) 0 c.loop-input.input _ (zero-add c.loop-input.input))
+pub loop-preserved : goal.loop-preserved
+loop-preserved c =
+    c.in_ok-push.ensures.ok ∙ ap (λ (xs : List Bool). xs ++ false ∷ []) c.loop.invariant
+    ∙ sym (map-range_with_len_more (λ (input : ℕ). false) 0 c.loop.counter _
+    (zero-add c.loop.counter))

@@ -5,7 +5,9 @@ use Rattle.interleavings.specs.declared.facts.Sight.{Sight}
 use Rattle.interleavings.proofs.Ranging.{both}
 use Rattle.interleavings.proofs.start.no_sights.Goals as goal
 
-pub loop-worker-preserved : goal.loop-worker-preserved
-loop-worker-preserved c =
-    c.in_ok-push.ensures.ok ∙ both (λ (xs : List Sight) (x : Sight). xs ++ x ∷ []) c.loop-worker.invariant c.in_ok-no_sight.ensures
-    ∙ sym (map-range_with_len_more (λ (worker : ℕ). no_sight c.args.inputs) 0 c.loop-worker.worker _ (zero-add c.loop-worker.worker))
+pub loop-preserved : goal.loop-preserved
+loop-preserved c =
+    c.in_ok-push.ensures.ok
+    ∙ both (λ (xs : List Sight) (x : Sight). xs ++ x ∷ []) c.loop.invariant c.in_ok-no_sight.ensures
+    ∙ sym (map-range_with_len_more (λ (worker : ℕ). no_sight c.args.inputs) 0 c.loop.counter _
+    (zero-add c.loop.counter))

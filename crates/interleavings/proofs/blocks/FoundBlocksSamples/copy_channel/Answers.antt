@@ -8,10 +8,14 @@ use Rattle.interleavings.proofs.blocks.FoundBlocksSamples.copy_channel.Goals as 
 pub copy_from_block-requires-clause-room : goal.copy_from_block-requires-clause-room
 copy_from_block-requires-clause-room c =
     let source = c.args.self.now in
-    rw c.in-Some.ensures.some at (c.requires.room (found_block (set_at source.table.now) source.found.now source.tick) (λ i. refl))
+    rw c.in-Some.ensures.some at
+    (c.requires.room
+    (found_block (set_at source.table.now) source.found.now source.tick) (λ i. refl))
 
 pub returns-in-None-clause-value : goal.returns-in-None-clause-value
 returns-in-None-clause-value c = λ b agrees.
-    c.fill.ensures.after (λ y e. e) ∙ silent c.args.channels c.args.channel c.args.frame (length c.args.out.now)
-    ∙ ap (λ (o : Option (List ℤ)). channel_samples o c.args.channels c.args.channel c.args.frame (length c.args.out.now))
+    c.fill.ensures.after (λ y e. e)
+    ∙ silent c.args.channels c.args.channel c.args.frame (length c.args.out.now)
+    ∙ ap (λ (o : Option (List ℤ)).
+    channel_samples o c.args.channels c.args.channel c.args.frame (length c.args.out.now))
     (sym (agrees c.args.input ∙ c.in-None.ensures.none))

@@ -12,5 +12,7 @@ returns-clause-setup c = subst IsSetup c.in_ok-copy.ensures c.in_ok-facts.ensure
 
 pub returns-clause-value : goal.returns-clause-value
 returns-clause-value c =
-    both (λ (s : SetupParts) (t : List Taken). core_parts s c.args.ticks c.args.workers t) c.in_ok-copy.ensures
-    (ap (run_of c.in_ok-copy.field-0 c.args.ticks) c.new.ensures ∙ run_of_none c.in_ok-copy.field-0 c.args.ticks)
+    both (λ (s : SetupParts) (t : List Taken). core_parts s c.args.ticks c.args.workers t)
+    c.in_ok-copy.ensures
+    (ap (run_of c.in_ok-copy.field-0 c.args.ticks) c.new.ensures
+    ∙ run_of_none c.in_ok-copy.field-0 c.args.ticks)
