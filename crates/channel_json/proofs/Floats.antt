@@ -4,8 +4,8 @@ use Rattle.std.proofs.Common.{None, Bool, true, false, Ordering, Less, Equal, Gr
 use Rattle.std.proofs.Common.{refl}
 use Rattle.std.specs.Ordering.{match_ordering}
 use Rattle.std.specs.Cmp.Lexicographic.{slice_cmp}
-use Rattle.std.proofs.lemmas.Bool.{or_parts}
-use Rattle.std.specs.Prelude.{◌||◌, slice_get}
+use Rattle.std.proofs.lemmas.Bool.{or_from, or_parts}
+use Rattle.std.specs.Prelude.{slice_get}
 use Rattle.std.specs.Option.{option_map_or}
 use Rattle.serde_json.specs.Data.{Data, null, Members, no_members, member, put}
 use Rattle.serde_json.specs.Written.{has_float, members_have_float}
@@ -48,24 +48,20 @@ use Rattle.channel_json.specs.Resources.{parent_data, label_data, channels_data,
 use Rattle.channel_json.specs.Resources.{choice_data, routable_data, output_caps_data, input_data}
 use Rattle.channel_json.specs.Resources.{output_data, io_data, name_data, resource_data}
 
-pub neither : (a b : Bool) → a ≡ false → b ≡ false → (a || b) ≡ false
-neither true b p q = p
-neither false b p q = q
-
 at : (o : Ordering) (k l : List ℕ) (d e : Data) (ms : Members) → has_float d ≡ false
     → has_float e ≡ false
     → members_have_float ms ≡ false → members_have_float (put k d ms) ≡ false
     → members_have_float
     (match_ordering o (member k d (member l e ms)) (member l d ms) (member l e (put k d ms)))
     ≡ false
-at Less k l d e ms p q r s = neither _ _ p (neither _ _ q r)
-at Equal k l d e ms p q r s = neither _ _ p r
-at Greater k l d e ms p q r s = neither _ _ q s
+at Less k l d e ms p q r s = or_from _ _ p (or_from _ _ q r)
+at Equal k l d e ms p q r s = or_from _ _ p r
+at Greater k l d e ms p q r s = or_from _ _ q s
 
 members_have_float-put : (k : List ℕ) (d : Data) (ms : Members) → has_float d ≡ false
     → members_have_float ms ≡ false
     → members_have_float (put k d ms) ≡ false
-members_have_float-put k d no_members p q = neither _ _ p refl
+members_have_float-put k d no_members p q = or_from _ _ p refl
 members_have_float-put k d (member l e ms) p q =
     let parts = or_parts (has_float e) (members_have_float ms) q in
     at (slice_cmp nat_cmp k l) k l d e ms p parts.0 parts.1
@@ -89,7 +85,7 @@ whole_object f xs each = whole_members f xs no_members each refl
 pub whole_array : {X : Type 0} (f : X → Data) (xs : List X) → ((x : X) → has_float (f x) ≡ false)
     → has_float (array_of (map f xs)) ≡ false
 whole_array f [] each = refl
-whole_array f (x ∷ xs) each = neither _ _ (each x) (whole_array f xs each)
+whole_array f (x ∷ xs) each = or_from _ _ (each x) (whole_array f xs each)
 
 -- ---- what is routed
 
@@ -136,7 +132,7 @@ whole_requested (After time) = refl
 whole_activation : (device : DeviceParts) (when : When) (tick : ℕ)
     → has_float (activation_data device when tick) ≡ false
 whole_activation device when tick =
-    neither _ _ (whole_start device.rate tick) (neither _ _ (whole_requested when) refl)
+    or_from _ _ (whole_start device.rate tick) (or_from _ _ (whole_requested when) refl)
 
 whole_last : (device : DeviceParts) (last : Option Activation)
     → has_float (last_data device last) ≡ false
@@ -146,12 +142,12 @@ whole_last device (Some activation) = whole_activation device activation.when ac
 pub whole_item : (device : DeviceParts) (when : When) (tick : ℕ) (action : List OutputChangeParts)
     → has_float (item_data device when tick action) ≡ false
 whole_item device when tick action =
-    neither _ _ (whole_action device action) (neither _ _ (whole_activation device when tick) refl)
+    or_from _ _ (whole_action device action) (or_from _ _ (whole_activation device when tick) refl)
 
 pub whole_accepted : (device : DeviceParts) (id : ℕ) (when : When) (tick : ℕ)
     (action : List OutputChangeParts)
     → has_float (accepted_data device id when tick action) ≡ false
-whole_accepted device id when tick action = neither _ _ (whole_item device when tick action) refl
+whole_accepted device id when tick action = or_from _ _ (whole_item device when tick action) refl
 
 pub whole_pending : (device : DeviceParts) (items : List PendingItem)
     → has_float (pending_data device items) ≡ false
@@ -161,7 +157,7 @@ whole_pending device items =
 pub whole_active : (device : DeviceParts) (view : ActiveView) (only : Option ℕ)
     → has_float (active_data device view only) ≡ false
 whole_active device view only =
-    neither _ _ (whole_last device view.last) (neither _ _ (whole_map device view.rows only) refl)
+    or_from _ _ (whole_last device view.last) (or_from _ _ (whole_map device view.rows only) refl)
 
 -- ---- resources
 
@@ -190,20 +186,20 @@ whole_routable device (Only choices) =
 
 whole_output_caps : (device : DeviceParts) (o : Output)
     → has_float (output_caps_data device o) ≡ false
-whole_output_caps device o = neither _ _ (whole_routable device o.routable) refl
+whole_output_caps device o = or_from _ _ (whole_routable device o.routable) refl
 
 whole_input : (i : Input) → has_float (input_data i) ≡ false
-whole_input i = neither _ _ (whole_channels i.labels) (neither _ _ (whole_parent i.parent) refl)
+whole_input i = or_from _ _ (whole_channels i.labels) (or_from _ _ (whole_parent i.parent) refl)
 
 whole_output : (device : DeviceParts) (o : Output) → has_float (output_data device o) ≡ false
 whole_output device o =
-    neither _ _ (whole_output_caps device o)
-    (neither _ _ (whole_channels o.labels) (neither _ _ (whole_source o.source_id) refl))
+    or_from _ _ (whole_output_caps device o)
+    (or_from _ _ (whole_channels o.labels) (or_from _ _ (whole_source o.source_id) refl))
 
 whole_io : (device : DeviceParts) → has_float (io_data device) ≡ false
 whole_io device =
-    neither _ _ (whole_object (λ i. (i.id, input_data i)) device.inputs whole_input)
-    (neither _ _ (whole_object (λ o. (o.id, output_data device o)) device.outputs
+    or_from _ _ (whole_object (λ i. (i.id, input_data i)) device.inputs whole_input)
+    (or_from _ _ (whole_object (λ o. (o.id, output_data device o)) device.outputs
     (whole_output device)) refl)
 
 of_there : {X : Type 0} (part : X → Data) (item : Option X) → ((x : X) → has_float (part x) ≡ false)

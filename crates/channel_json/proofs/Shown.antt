@@ -2,7 +2,7 @@
 use Rattle.std.proofs.Common.{◌≡◌, ℕ, ◌<◌, Bool, true, false, cond, Option, None, inl, inr, List}
 use Rattle.std.proofs.Common.{[], ◌∷◌, decimal, length, get_or, ◌^◌, zero, suc, refl, arith}
 use Rattle.std.specs.Str.{is_utf8, IsUtf8}
-use Rattle.std.proofs.lemmas.Bool.{cases_lt}
+use Rattle.std.proofs.lemmas.Bool.{cases_lt, false_from_ne_true}
 use Rattle.std.proofs.lemmas.Fmt.{IsAscii-decimal}
 use Rattle.std.proofs.lemmas.List.{get_or_past}
 use Rattle.std.proofs.lemmas.List.Elements.{All-get_or}
@@ -14,15 +14,11 @@ use Rattle.serde_json.specs.Data.{Data}
 use Rattle.serde_json.specs.Read.{read}
 use Rattle.channel_json.specs.Values.{document, shown_text}
 
-not_true : (b : Bool) → (b ≡ true → ⊥) → b ≡ false
-not_true true h = absurd (h refl)
-not_true false h = refl
-
 pub shown_whole : (text : List ℕ) → IsUtf8 text → shown_text text ≡ text
 shown_whole text h = rw (is_utf8-from_IsUtf8 text h) refl
 
 pub shown_empty : (text : List ℕ) → (IsUtf8 text → ⊥) → shown_text text ≡ []
-shown_empty text h = rw (not_true (is_utf8 text) (λ is. h (IsUtf8-from_is_utf8 text is))) refl
+shown_empty text h = rw (false_from_ne_true (is_utf8 text) (λ is. h (IsUtf8-from_is_utf8 text is))) refl
 
 small : (b : ℕ) → IsIdByte b → b < 128
 small b (inl h) = omega arith

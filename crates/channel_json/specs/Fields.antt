@@ -5,8 +5,8 @@ use Rattle.std.specs.Option.{option_map_or, option_to_list}
 use Rattle.serde_json.specs.Data.{Data, Items, no_items, item}
 use Rattle.serde_json.specs.Find.{get, as_null, as_number, as_u64, as_str, as_object, as_array}
 
--- one reading and then another, which a do block joins
 infixl 10 ◌>>=◌
+-- one reading and then another, which a do block joins
 abbrev pub ◌>>=◌ : {A B : Type 0} → Option A → (A → Option B) → Option B
 o >>= f = option_and_then f o
 

@@ -23,34 +23,46 @@ pub enum DeviceJsonFault {
 }
 
 /// Where a request isn't as it should be, in the order in which it is looked at.
-#[derive(Clone, Copy, Debug, PartialEq, Eq)]
+#[derive(Clone, Copy, Debug, PartialEq, Eq, Error)]
 pub enum Place {
     /// The whole is no object.
+    #[error("the body is not an object")]
     Top,
     /// `activation` is no object.
+    #[error("activation is not an object")]
     Activation,
     /// `mode` is none of the three words.
+    #[error("mode is none of its three words")]
     Mode,
     /// `requested_time` of a scheduled activation is no time.
+    #[error("requested_time is not a time")]
     Time,
     /// `action` is no object.
+    #[error("action is not an object")]
     Action,
     /// What stands under an output's id is no object.
+    #[error("what stands under the id of an output is not an object")]
     Output,
     /// A channel's key is no number up to 255, or what stands under it is no cell.
+    #[error("the key of a channel is not a number up to 255, or no cell stands under it")]
     Cell,
 }
 
 /// Why a request isn't read: the first that applies, where the keys of `action` and of each output
 /// are looked at in the order of their bytes.
-#[derive(Clone, Copy, Debug, PartialEq, Eq)]
+#[derive(Clone, Copy, Debug, PartialEq, Eq, Error)]
 pub enum BodyFault {
     /// The text is no JSON value (RFC 8259), or one that nests deeper than 127.
+    #[error("the text is not JSON")]
     NotJson,
+    /// A part of the body isn't as it should be: this one.
+    #[error("{0}")]
     Shape(Place),
     /// An output's id isn't there.
+    #[error("there is no output of that id")]
     UnknownOutput,
     /// An input's id isn't there.
+    #[error("there is no input of that id")]
     UnknownInput,
 }
 

@@ -575,8 +575,22 @@ fn resources(rt: HostRuntime) -> Result<(), Fail> {
     Ok(())
 }
 
+/// What is printed of faults.
+const FAULTS: [(BodyFault, &str); 3] = [
+    (BodyFault::NotJson, "the text is not JSON"),
+    (
+        BodyFault::Shape(Place::Time),
+        "requested_time is not a time",
+    ),
+    (BodyFault::UnknownInput, "there is no input of that id"),
+];
+
 #[test]
 fn errors(rt: HostRuntime) -> Result<(), Fail> {
+    for (fault, wanted) in &FAULTS {
+        let text = format!(in rt.alloc(); "{fault}")?;
+        assert_eq!(rt; text.as_str(), *wanted);
+    }
     let mut out = Vec::new(rt.alloc());
     error_body(rt.alloc(), 423, "output locked", &mut out)?;
     let wanted = b"{\"code\":423,\"debug\":null,\"error\":\"output locked\"}";
