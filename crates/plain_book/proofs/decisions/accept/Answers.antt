@@ -26,8 +26,8 @@ returns c =
     } in
     new_decided s claims c.args.client c.args.entries.now p c.args.when.now c.args.action.now
     c.args.request.now p.next c.args.moments.tick _ _ c.new-call.result c.push_changes.new.made
-    c.in_ok-item.item c.last_behind.result c.accepted-reply.result c.requires.desk c.requires.looked
-    is
+    c.in_ok-item.item c.last_behind.result c.accepted-reply.result c.requires.desk
+    c.requires.looked is
     (c.new-call.ensures
     ∙ ap (journal_call claims c.args.client p.next c.args.moments.tick) c.in_ok-copy.ensures)
     (grind arith)
