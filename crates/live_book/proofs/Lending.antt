@@ -1,8 +1,8 @@
 -- What tries without an answer leave, and what one with an answer tells behind them.
-use Rattle.std.proofs.Common.{◌≡◌, ℕ, ◌+◌, ◌*◌, ◌<◌, ◌≤◌, List, [], ◌∷◌, ◌++◌, length, refl, sym}
+use Rattle.std.proofs.Common.{◌≡◌, ℕ, ◌+◌, ◌*◌, ◌≤◌, List, [], ◌∷◌, ◌++◌, length, refl, sym}
 use Rattle.std.proofs.Common.{ap, ◌∙◌, subst, arith, append_assoc, length-append}
-use Rattle.std.specs.Prelude.{All}
 use Rattle.std.proofs.lemmas.List.{append-nil}
+use Rattle.list_laws.proofs.Items.{All-left}
 use Rattle.map_entry.specs.Setup.{SetupParts}
 use Rattle.map_entry.specs.declared.entry.Entry.{Entry}
 use Rattle.claim_rule.specs.declared.plan.Plan.{Plan}
@@ -17,12 +17,11 @@ use Rattle.plain_book.specs.declared.replies.Reply.{Reply}
 use Rattle.plain_book.specs.declared.requests.Request.{Request}
 use Rattle.plain_book.specs.declared.requests.Stamp.{Stamp}
 use Rattle.plain_book.specs.Desk.{IsAsked}
-use Rattle.plain_book.specs.Given.{given_item}
 use Rattle.live_book.specs.Books.{BookFace, last_raw}
 use Rattle.live_book.specs.Lent.{HeardMore, IsFewLoads}
 use Rattle.live_book.specs.Tries.{AreBelow, GoesOn, IsLoadedLast, IsLoadedOnce, IsMoved, IsSame}
 use Rattle.live_book.specs.Tries.{answer_entries}
-use Rattle.live_book.proofs.Sights.{all_left, last_push}
+use Rattle.live_book.proofs.Sights.{last_push}
 
 pub record IsTrying (t : TableFace) (b c : BookFace) (p q : ClientFace) (n : ℕ) : Type 0 where
   pub of : IsPublisherOf t c.publisher
@@ -167,8 +166,8 @@ floor_since b c p q claims goes_on heard below =
     ap (λ (xs : List Sight). xs ++ q.view.told) heard.sights
     ∙ ap (λ (xs : List Sight). p.view.sights ++ xs) heard.told
     ∙ sym (append_assoc p.view.sights p.view.told heard.more) in
-    all_left (λ (x : Sight). claims_at b.publisher.view.plan x.raw ≤ claims) (p.view.sights
-    ++ p.view.told) heard.more
+    All-left (λ (x : Sight). claims_at b.publisher.view.plan x.raw ≤ claims)
+    (p.view.sights ++ p.view.told) heard.more
     (subst (λ (z : Plan × List Sight). AreBelow z.0 claims z.1) (λ k. (goes_on.plan k, same k))
     below)
 

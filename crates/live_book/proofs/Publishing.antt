@@ -1,5 +1,5 @@
 -- What a decision gives of new entries is all that a table asks of them.
-use Rattle.std.proofs.Common.{◌≡◌, ℕ, ◌<◌, List, arith}
+use Rattle.std.proofs.Common.{ℕ, ◌<◌, List, arith}
 use Rattle.std.proofs.lemmas.List.Elements.{All-weaker}
 use Rattle.map_entry.specs.Entry.{due}
 use Rattle.map_entry.specs.Setup.{IsSetup, SetupParts}

@@ -1,7 +1,7 @@
 -- The base rows are entries with which a table may begin.
-use Rattle.std.proofs.Common.{◌≡◌, ℕ, ◌+◌, ◌*◌, ◌<◌, ◌≤◌, List, [], ◌∷◌, length, map, Option, Some}
-use Rattle.std.proofs.Common.{None, refl, sym, ap, ◌∙◌, subst, arith}
-use Rattle.std.specs.Prelude.{All, IsSome, IsSomeAnd}
+use Rattle.std.proofs.Common.{◌≡◌, ℕ, ◌<◌, List, [], ◌∷◌, length, map, Option, Some}
+use Rattle.std.proofs.Common.{None, refl, subst, arith}
+use Rattle.std.specs.Prelude.{IsSome, IsSomeAnd}
 use Rattle.std.specs.List.{range_with_len}
 use Rattle.std.proofs.lemmas.List.Elements.{All-from_recursion}
 use Rattle.std.proofs.lemmas.Bool.{false≢true}
@@ -16,7 +16,7 @@ use Rattle.map_entry.proofs.Rows.{rows_long}
 use Rattle.claim_rule.specs.declared.words.TheConstants.{TICKS_LIMIT}
 use Rattle.claim_rule.specs.Rule.{Rises}
 use Rattle.claim_word.specs.Starts.{IsBase}
-use Rattle.plain_book.specs.Journal.{base_entries, base_entry, entries_of}
+use Rattle.plain_book.specs.Journal.{base_entries, base_entry}
 use Rattle.plain_book.specs.Rows.{AreEntries}
 use Rattle.plain_book.proofs.Prefixes.{no_calls}
 use Rattle.plain_book.proofs.Entries.{entries_none}

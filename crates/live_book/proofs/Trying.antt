@@ -1,7 +1,7 @@
 -- What a book is after a look, a try and an answer.
-use Rattle.std.proofs.Common.{◌≡◌, ℕ, ◌+◌, ◌<◌, ◌≤◌, List, [], ◌∷◌, ◌++◌, length, take, Option}
+use Rattle.std.proofs.Common.{◌≡◌, ℕ, ◌+◌, ◌≤◌, List, [], ◌∷◌, ◌++◌, length, take, Option}
 use Rattle.std.proofs.Common.{Some, None, refl, sym, ap, ◌∙◌, subst, arith, append_assoc}
-use Rattle.std.specs.Prelude.{All, IfSome, option_map}
+use Rattle.std.specs.Prelude.{IfSome, option_map}
 use Rattle.std.specs.Option.{option_map_or, option_to_list}
 use Rattle.std.proofs.Math.Seq.{take-append_seam}
 use Rattle.std.proofs.lemmas.List.{append-nil}
@@ -20,7 +20,6 @@ use Rattle.plain_book.specs.declared.given.Given.{Given}
 use Rattle.plain_book.specs.declared.kept.Decided.{Decided}
 use Rattle.plain_book.specs.declared.kept.Made.{Made}
 use Rattle.plain_book.specs.declared.requests.Request.{Request}
-use Rattle.plain_book.specs.declared.requests.Stamp.{Stamp}
 use Rattle.plain_book.specs.Book.{call_of, reply_of}
 use Rattle.plain_book.specs.Desk.{IsAsked, IsDecided, IsDesk, IsMade, KeptParts, looked_at, settled}
 use Rattle.plain_book.specs.Desk.{staged}
@@ -34,7 +33,7 @@ use Rattle.plain_book.proofs.Giving.{given_later, given_more}
 use Rattle.live_book.specs.declared.attempt.Under.{Under}
 use Rattle.live_book.specs.declared.attempt.Under.TheVariants.{Moved, NoMemory}
 use Rattle.live_book.specs.Books.{IsBook, high, last_raw}
-use Rattle.live_book.specs.Tries.{AreBelow, IsMissedAt, IsMissedBy, IsMoved, IsStill, IsTry}
+use Rattle.live_book.specs.Tries.{AreBelow, IsMissedBy, IsStill, IsTry}
 use Rattle.live_book.specs.Tries.{IsUnder, answer_entries}
 use Rattle.live_book.proofs.Sights.{claims_rise, last_below, last_push}
 

@@ -1,5 +1,5 @@
 -- What a book over a table keeps. (This project's own.)
-use Rattle.std.specs.Prelude.{◌≡◌, ℕ, ◌≤◌, List, [], fold}
+use Rattle.std.specs.Prelude.{◌≡◌, ℕ, List, [], fold}
 use Rattle.map_entry.specs.Setup.{SetupParts}
 use Rattle.claim_rule.specs.declared.view.Sight.{Sight}
 use Rattle.claim_rule.specs.declared.view.View.{View}

@@ -6,7 +6,8 @@ use Rattle.live_book.proofs.Sharing.{next_is}
 use Rattle.live_book.proofs.shared.answer_first.Goals as goal
 
 pub
-    returns-in_ok-ask_lent-in-Some-clause-answered : goal.returns-in_ok-ask_lent-in-Some-clause-answered
+    returns-in_ok-ask_lent-in-Some-clause-answered :
+    goal.returns-in_ok-ask_lent-in-Some-clause-answered
 returns-in_ok-ask_lent-in-Some-clause-answered c =
     let low : c.args.client < length c.args.left.now.items =
     subst (λ (l : List (List Request)). c.args.client < length l) c.as_slice.ensures.value

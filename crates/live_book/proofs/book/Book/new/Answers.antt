@@ -1,8 +1,6 @@
-use Rattle.std.proofs.Common.{List, length, refl, sym, ap, ◌∙◌, subst}
+use Rattle.std.proofs.Common.{length, refl, sym, ap, ◌∙◌, subst}
 use Rattle.map_entry.specs.Setup.{IsSetup, SetupParts}
-use Rattle.plain_book.specs.declared.given.Given.{Given}
 use Rattle.plain_book.proofs.Base.{desk_new}
-use Rattle.live_book.specs.Books.{IsBook}
 use Rattle.live_book.proofs.Trying.{new_desk}
 use Rattle.live_book.proofs.book.Book.new.Goals as goal
 
