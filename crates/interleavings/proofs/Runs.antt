@@ -10,7 +10,8 @@ use Rattle.std.proofs.lemmas.Option.{get_or_from_slice_get}
 use Rattle.list_laws.proofs.Items.{slice_get-push}
 use Rattle.map_entry.specs.Setup.{SetupParts}
 use Rattle.plain_book.specs.declared.calls.JournalCall.{JournalCall}
-use Rattle.plain_book.proofs.Lists.{no_item, slice_get_take}
+use Rattle.plain_book.proofs.Lists.{slice_get_take}
+use Rattle.plain_book.proofs.Prefixes.{no_item}
 use Rattle.interleavings.specs.declared.events.Taken.{Taken}
 use Rattle.interleavings.specs.Events.{IsRun, answer_of, call_in, claims_in, drawn, journal_from}
 use Rattle.interleavings.specs.Events.{journal_in}
