@@ -13,7 +13,8 @@ use Rattle.input_rule.specs.declared.view.View.{View}
 use Rattle.input_rule.specs.Views.{HasMissed, HasSeen, closed_of, listened, looked, saw}
 use Rattle.input_cells.specs.Faces.{GoesOn, Grows, GrowsAt, HasView, InputFace, SeatFace, changed}
 use Rattle.input_cells.specs.Faces.{face_of, heard_of, looks_of}
-use Rattle.input_cells.specs.PassesGrow.{AgreesBefore, GrowsOn, KeepsMissed, KeepsSeen, StaysOfTable}
+use Rattle.input_cells.specs.PassesGrow.{AgreesBefore, GrowsOn, KeepsMissed, KeepsSeen}
+use Rattle.input_cells.specs.PassesGrow.{StaysOfTable}
 
 -- ---- lists that go on
 

@@ -9,7 +9,8 @@ use Rattle.input_rule.specs.Views.{HasSeen, closed_of, last_of, looked, saw}
 use Rattle.input_cells.specs.Faces.{AreNumbered, GoesOn, Grows, HasInput, HasView}
 use Rattle.input_cells.specs.Faces.{InputFace, IsReadOf, SeatFace, changed}
 use Rattle.input_cells.specs.Looking.{FindsClosed, FindsFree, HasTickEach, HasTicks, KnowsNoLess}
-use Rattle.input_cells.specs.Looking.{LookedClosed, LookedSince, closings_at, looks_at, new_closings}
+use Rattle.input_cells.specs.Looking.{LookedClosed, LookedSince, closings_at, looks_at}
+use Rattle.input_cells.specs.Looking.{new_closings}
 use Rattle.input_cells.proofs.Copying.{seen_sight, sight_seen, test_tick, tick_test}
 use Rattle.input_cells.proofs.Growing.{keeps_seen, last_among, on_among}
 use Rattle.input_cells.proofs.Passes.{as_many, face_at}
@@ -98,10 +99,12 @@ pub no_less_on : (before after later : List SeatFace) (tick : ℕ) → Grows aft
 no_less_on before after later tick g h = λ i.
     let k = h i in
     let looks = longer (looks_at after i) (looks_at later i) (looks_on after later g i) in
-    let closings = longer (closings_at after i) (closings_at later i) (closings_on after later g i) in (
+    let closings =
+    longer (closings_at after i) (closings_at later i) (closings_on after later g i) in (
       omega (arith, k.0, looks),
       omega (arith, k.1, closings),
-      λ e. seen_sight later i tick (keeps_seen after later g i tick (sight_seen after i tick (k.2 e))),
+      λ e. seen_sight later i tick
+          (keeps_seen after later g i tick (sight_seen after i tick (k.2 e))),
     )
 
 -- the look of a call is one of those since
@@ -170,7 +173,8 @@ pub looked_closed : (table : List InputFace) (before pass mid after : List SeatF
 looked_closed table before pass mid after i tick closed there d numbered is known f g inside low lt
     loaded change seen again late =
     let number : closed_of (get_or mid i d).view ≡ closed =
-    ap (λ (l : List SeatFace). closed_of (get_or l i d).view) loaded ∙ closed_at pass i d closed low in
+    ap (λ (l : List SeatFace). closed_of (get_or l i d).view) loaded
+    ∙ closed_at pass i d closed low in
     record {
       look = look_of (get_or mid i d).view tick there;
       looked = looked_since table before mid after i tick there d numbered is
@@ -236,7 +240,8 @@ closed_on table before after later tick i there g h = record {
 
 -- ---- ticks
 
-pub ticks_tested : (table : List InputFace) (tick : ℕ) → HasTickEach table tick → HasTicks table tick
+pub ticks_tested : (table : List InputFace) (tick : ℕ) → HasTickEach table tick
+    → HasTicks table tick
 ticks_tested table tick h = λ i inside. tick_test table i tick (h i inside)
 
 pub ticks_of : (table : List InputFace) (tick : ℕ) → HasTicks table tick → HasTickEach table tick

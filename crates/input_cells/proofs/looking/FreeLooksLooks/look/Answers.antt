@@ -12,12 +12,14 @@ pub invariant_of-self : goal.invariant_of-self
 invariant_of-self c = let s = c.args.self.now in record {
   of_table = c.look.ensures.pass;
   has_tick = s.has_tick;
-  no_less = no_less_on s.first.now.value s.pass.now c.look.new.self s.tick c.look.ensures.grows s.no_less;
+  no_less = no_less_on s.first.now.value s.pass.now c.look.new.self s.tick
+      c.look.ensures.grows s.no_less;
 }
 
 pub returns-clause-seen : goal.returns-clause-seen
 returns-clause-seen c = let s = c.args.self.now in record {
-  inside = λ inside. found_free s.table.now s.first.now.value s.pass.now c.look.new.self c.args.input
+  inside = λ inside. found_free s.table.now s.first.now.value s.pass.now
+      c.look.new.self c.args.input
       s.tick c.look.result c.inputs.ensures.numbered s.of_table s.no_less inside
       c.look.ensures.seen c.look.ensures.saw c.look.ensures.again;
   outside = λ out.
