@@ -1,5 +1,6 @@
 -- A text says one device, and one that is refused says none that is in order.
-use Rattle.std.proofs.Common.{◌≡◌, ℕ, ◌<◌, List, length, Option, Some, None, refl, sym, ap, ◌∙◌, arith}
+use Rattle.std.proofs.Common.{◌≡◌, ℕ, ◌<◌, List, length, Option, Some, None, refl, sym, ap, ◌∙◌}
+use Rattle.std.proofs.Common.{arith}
 use Rattle.std.specs.Prelude.{IfSome, IsSomeAnd, slice_get, Err}
 use Rattle.std.proofs.lemmas.Option.{slice_get_within}
 use Rattle.io_caps.specs.Device.{IsDevice}
@@ -7,7 +8,11 @@ use Rattle.io_caps.specs.Fault.{IsBroken}
 use Rattle.io_caps.specs.declared.memory.Or.TheVariants.{Fault}
 use Rattle.io_caps.specs.declared.device.DeviceParts.{DeviceParts}
 use Rattle.io_caps.specs.declared.fault.DeviceFault.{DeviceFault}
-use Rattle.io_caps.specs.declared.fault.DeviceFault.TheVariants.{Rate, Base, Hold, NoOutput, ManyInputs, ManyOutputs, Id, DoubleId, Channels, PayloadType, ManyChannels, Block, Payload, Unknown}
+use Rattle.io_caps.specs.declared.fault.DeviceFault.TheVariants.{Rate, Base, Hold, NoOutput}
+use Rattle.io_caps.specs.declared.fault.DeviceFault.TheVariants.{ManyInputs, ManyOutputs, Id}
+use Rattle.io_caps.specs.declared.fault.DeviceFault.TheVariants.{DoubleId, Channels, PayloadType}
+use Rattle.io_caps.specs.declared.fault.DeviceFault.TheVariants.{ManyChannels, Block, Payload}
+use Rattle.io_caps.specs.declared.fault.DeviceFault.TheVariants.{Unknown}
 use Rattle.io_caps.specs.declared.fault.Slot.TheVariants.{Source, Target}
 use Rattle.map_entry.specs.Setup.{SetupParts, IsSetup, IsBrokenBy}
 use Rattle.map_entry.specs.Row.{row_fault, IsRowOk}
@@ -19,7 +24,8 @@ use Rattle.exact_text.proofs.Exact.{some_is}
 use Rattle.channel_json.specs.Fields.{◌>>=◌}
 use Rattle.channel_json.specs.Devices.{setup_in, Says, ReadsDevice}
 use Rattle.channel_json.specs.declared.faults.DeviceJsonFault.{DeviceJsonFault}
-use Rattle.channel_json.specs.declared.faults.DeviceJsonFault.TheVariants.{NotJson, Shape, Device, Rows}
+use Rattle.channel_json.specs.declared.faults.DeviceJsonFault.TheVariants.{NotJson, Shape, Device}
+use Rattle.channel_json.specs.declared.faults.DeviceJsonFault.TheVariants.{Rows}
 
 -- a text says one device
 pub says_once : (text : List ℕ) (a b : SetupParts) → Says text a → Says text b → a ≡ b
@@ -46,8 +52,10 @@ broken_none d (Block k) broken is = broken.some is.routes.blocks
 broken_none d (Payload k) broken is = broken.some is.routes.packets
 broken_none d (Unknown k) broken is = broken.some is.routes.routable
 
-row_unfit : (d : DeviceParts) (output : ℕ) (fault : RowFault) (rows : List (List Cell)) (o : Option (List Cell)) → slice_get rows output ≡ o
-    → (output < length rows → IfSome o (IsRowOk d output)) → IsSomeAnd o (λ row. row_fault d output row ≡ Some fault) → ⊥
+row_unfit : (d : DeviceParts) (output : ℕ) (fault : RowFault) (rows : List (List Cell))
+    (o : Option (List Cell)) → slice_get rows output ≡ o
+    → (output < length rows → IfSome o (IsRowOk d output))
+    → IsSomeAnd o (λ row. row_fault d output row ≡ Some fault) → ⊥
 row_unfit d output fault rows None e passes broken = absurd broken
 row_unfit d output fault rows (Some row) e passes broken =
     let ok = passes (slice_get_within rows output row e) in
@@ -56,11 +64,18 @@ row_unfit d output fault rows (Some row) e passes broken =
 -- no rows that don't fit a device are in order
 unfit_none : (setup : SetupParts) (fault : SetupFault) → IsBrokenBy setup fault → IsSetup setup → ⊥
 unfit_none setup Count broken is = broken is.count
-unfit_none setup (BaseRow output fault) broken is = row_unfit setup.device output fault setup.rows (slice_get setup.rows output) refl (is.passes output) broken.2
+unfit_none setup (BaseRow output fault) broken is =
+    row_unfit setup.device output fault setup.rows (slice_get setup.rows output) refl
+    (is.passes output) broken.2
 
 -- a text that is refused says no device that is in order
-pub refused_says : (text : List ℕ) (fault : DeviceJsonFault) → ReadsDevice text (Err (Fault fault)) → (setup : SetupParts) → IsSetup setup → Says text setup → ⊥
-refused_says text NotJson h setup is says = let none : Some setup ≡ None = sym says ∙ ap (λ o. o >>= setup_in) h in absurd cc
-refused_says text Shape h setup is says = let none : Some setup ≡ None = sym says ∙ ap (λ o. o >>= setup_in) h.1 ∙ h.2 in absurd cc
-refused_says text (Device fault) h setup is says = broken_none h.0.device fault h.2.broken (rw (says_once text h.0 setup h.1 says) is.device)
-refused_says text (Rows fault) h setup is says = unfit_none h.0 fault h.3 (rw (says_once text h.0 setup h.1 says) is)
+pub refused_says : (text : List ℕ) (fault : DeviceJsonFault) → ReadsDevice text (Err (Fault fault))
+    → (setup : SetupParts) → IsSetup setup → Says text setup → ⊥
+refused_says text NotJson h setup is says = let none : Some setup ≡ None =
+    sym says ∙ ap (λ o. o >>= setup_in) h in absurd cc
+refused_says text Shape h setup is says = let none : Some setup ≡ None =
+    sym says ∙ ap (λ o. o >>= setup_in) h.1 ∙ h.2 in absurd cc
+refused_says text (Device fault) h setup is says =
+    broken_none h.0.device fault h.2.broken (rw (says_once text h.0 setup h.1 says) is.device)
+refused_says text (Rows fault) h setup is says =
+    unfit_none h.0 fault h.3 (rw (says_once text h.0 setup h.1 says) is)

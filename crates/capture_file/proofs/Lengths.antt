@@ -1,5 +1,6 @@
 -- The records of calls and replies are short.
-use Rattle.std.proofs.Common.{◌≡◌, ℕ, ◌+◌, ◌*◌, ◌^◌, ◌<◌, ◌≤◌, List, [], ◌∷◌, ◌++◌, length, map, Some, None, refl, ap, arith, inl, inr, ◌⊎◌}
+use Rattle.std.proofs.Common.{◌≡◌, ℕ, ◌+◌, ◌*◌, ◌^◌, ◌<◌, ◌≤◌, List, [], ◌∷◌, ◌++◌, length, map}
+use Rattle.std.proofs.Common.{Some, None, refl, ap, arith, inl, inr, ◌⊎◌}
 use Rattle.std.specs.List.{AllByRecursion, AllZip, flat_map}
 use Rattle.std.proofs.lemmas.List.{length-append, length-map}
 use Rattle.std.proofs.lemmas.List.Concat.{flat_map-cons}
@@ -15,18 +16,34 @@ use Rattle.plain_book.specs.declared.requests.Stamp.{Stamp}
 use Rattle.plain_book.specs.History.{reply_item}
 use Rattle.plain_book.specs.declared.history.ReplyItem.{ReplyItem}
 use Rattle.plain_book.specs.declared.requests.When.TheVariants.{Now, At, After}
-use Rattle.plain_book.specs.declared.requests.Request.TheVariants.{Activate, Delete, Active as AskActive, Pending as AskPending}
-use Rattle.plain_book.specs.declared.replies.Refusal.TheVariants.{Empty, Unknown, BadChannel, Locked, Row, Time, NotPending, Full}
+use Rattle.plain_book.specs.declared.requests.Request.TheVariants.{Activate, Delete}
+use Rattle.plain_book.specs.declared.requests.Request.TheVariants.{Active as AskActive}
+use Rattle.plain_book.specs.declared.requests.Request.TheVariants.{Pending as AskPending}
+use Rattle.plain_book.specs.declared.replies.Refusal.TheVariants.{Empty, Unknown, BadChannel}
+use Rattle.plain_book.specs.declared.replies.Refusal.TheVariants.{Locked, Row, Time, NotPending}
+use Rattle.plain_book.specs.declared.replies.Refusal.TheVariants.{Full}
 use Rattle.plain_book.specs.declared.history.Said.{Said}
 use Rattle.plain_book.specs.declared.history.Said.TheVariants.{Plain, Http}
 use Rattle.plain_book.specs.declared.replies.PendingItem.{PendingItem}
 use Rattle.plain_book.specs.declared.replies.Reply.{Reply}
-use Rattle.plain_book.specs.declared.replies.Reply.TheVariants.{Activated, Scheduled, Deleted, Active, Pending, Refused}
+use Rattle.plain_book.specs.declared.replies.Reply.TheVariants.{Activated, Scheduled, Deleted}
+use Rattle.plain_book.specs.declared.replies.Reply.TheVariants.{Active, Pending, Refused}
 use Rattle.exact_text.specs.Forms.{number, number_text, counted, ◌▸◌}
-use Rattle.exact_text.proofs.FormLengths.{IsShort, length-number, shorter, byte_short, number_short, then_short, struct_short, checked_short, counted_short, variant_short, constant_short, no_form_short, choose_short, tagged_short}
-use Rattle.capture_file.specs.Tags.{now_op, at_op, after_op, delete_op, active_op, pending_op, activated_code, scheduled_code, deleted_code, active_code, pending_code, empty_code, unknown_code, bad_channel_code, locked_code, row_code, time_code, not_pending_code, full_code}
-use Rattle.capture_file.specs.Requests.{cell, change, output_change, action, time, request, if_now, if_at, if_after, if_delete}
-use Rattle.capture_file.specs.Replies.{when, if_at_time, if_after_time, shown, if_last, last, if_activated, if_scheduled, if_deleted, if_active, if_pending, if_unknown, if_bad_channel, if_locked, if_row, if_not_pending, FitsWidth, rows, view, pending, row_fault, refusal, reply as plain_reply, HoldsPending, HoldsReply}
+use Rattle.exact_text.proofs.FormLengths.{IsShort, length-number, shorter, byte_short, number_short}
+use Rattle.exact_text.proofs.FormLengths.{then_short, struct_short, checked_short, counted_short}
+use Rattle.exact_text.proofs.FormLengths.{variant_short, constant_short, no_form_short}
+use Rattle.exact_text.proofs.FormLengths.{choose_short, tagged_short}
+use Rattle.capture_file.specs.Tags.{now_op, at_op, after_op, delete_op, active_op, pending_op}
+use Rattle.capture_file.specs.Tags.{activated_code, scheduled_code, deleted_code, active_code}
+use Rattle.capture_file.specs.Tags.{pending_code, empty_code, unknown_code, bad_channel_code}
+use Rattle.capture_file.specs.Tags.{locked_code, row_code, time_code, not_pending_code, full_code}
+use Rattle.capture_file.specs.Requests.{cell, change, output_change, action, time, request, if_now}
+use Rattle.capture_file.specs.Requests.{if_at, if_after, if_delete}
+use Rattle.capture_file.specs.Replies.{when, if_at_time, if_after_time, shown, if_last, last}
+use Rattle.capture_file.specs.Replies.{if_activated, if_scheduled, if_deleted, if_active}
+use Rattle.capture_file.specs.Replies.{if_pending, if_unknown, if_bad_channel, if_locked, if_row}
+use Rattle.capture_file.specs.Replies.{if_not_pending, FitsWidth, rows, view, pending, row_fault}
+use Rattle.capture_file.specs.Replies.{refusal, reply as plain_reply, HoldsPending, HoldsReply}
 use Rattle.capture_file.specs.Parts.{HoldsSaid}
 use Rattle.capture_file.specs.Result.{call_made, call, said, reply, widths_of, FitsCall, FitsReply}
 
@@ -57,10 +74,12 @@ timed_short = then_short time_short action_short
 request_short : IsShort request 195599
 unfolding request
 request_short = tagged_short (λ op.
-    choose_short op now_op (variant_short (λ a. Activate Now a) if_now (shorter 195598 (omega arith) action_short)) (
+    choose_short op now_op
+    (variant_short (λ a. Activate Now a) if_now (shorter 195598 (omega arith) action_short)) (
     choose_short op at_op (variant_short (λ p. Activate (At p.0) p.1) if_at timed_short) (
     choose_short op after_op (variant_short (λ p. Activate (After p.0) p.1) if_after timed_short) (
-    choose_short op delete_op (variant_short (λ id. Delete id) if_delete (shorter 195598 (omega arith) (number_short 8))) (
+    choose_short op delete_op
+    (variant_short (λ id. Delete id) if_delete (shorter 195598 (omega arith) (number_short 8))) (
     choose_short op active_op (constant_short AskActive) (
     choose_short op pending_op (constant_short AskPending) no_form_short))))))
 
@@ -68,7 +87,10 @@ request_short = tagged_short (λ op.
 pub call_short : (c : JournalCall) → FitsCall c → length (call.text c) < 2 ^ 32
 unfolding call
 call_short c fits =
-    let s = struct_short (λ c. (c.at, (c.client, (c.id, (c.tick, c.request))))) call_made (then_short (number_short 8) (then_short byte_short (then_short (number_short 8) (then_short (number_short 8) request_short)))) in
+    let s = struct_short (λ c. (c.at, (c.client, (c.id, (c.tick, c.request))))) call_made
+    (then_short (number_short 8)
+    (then_short byte_short
+    (then_short (number_short 8) (then_short (number_short 8) request_short)))) in
     let short = s.most c fits.fits in
     omega (arith, short)
 
@@ -79,17 +101,22 @@ unfolding when
 when_short = tagged_short (λ op.
     choose_short op now_op (constant_short Now) (
     choose_short op at_op (variant_short (λ t. At t) if_at_time time_short) (
-    choose_short op after_op (variant_short (λ t. After t) if_after_time time_short) no_form_short)))
+    choose_short op after_op (variant_short (λ t. After t) if_after_time time_short)
+    no_form_short)))
 
 shown_short : IsShort shown 29
 unfolding shown
-shown_short = struct_short _ _ (then_short (number_short 8) (then_short when_short (number_short 8)))
+shown_short = struct_short _ _
+    (then_short (number_short 8) (then_short when_short (number_short 8)))
 
 last_short : IsShort last 30
 unfolding last
-last_short = tagged_short (λ t. choose_short t 0 (constant_short None) (choose_short t 1 (variant_short (λ a. Some a) if_last shown_short) no_form_short))
+last_short = tagged_short
+    (λ t. choose_short t 0 (constant_short None)
+    (choose_short t 1 (variant_short (λ a. Some a) if_last shown_short) no_form_short))
 
-cells_short : (row : List Cell) → AllByRecursion cell.Fits row → length (flat_map cell.text row) ≤ length row * 2
+cells_short : (row : List Cell) → AllByRecursion cell.Fits row
+    → length (flat_map cell.text row) ≤ length row * 2
 cells_short [] fits = omega arith
 cells_short (c ∷ row) fits =
     let s = cell_short.most c fits.0 in
@@ -98,7 +125,8 @@ cells_short (c ∷ row) fits =
     omega (arith, s, others, e, length-append (cell.text c) (flat_map cell.text row))
 
 -- rows of at most 64 cells each
-rows_short : (widths : List ℕ) (x : List (List Cell)) → AllByRecursion (λ w. w ≤ 64) widths → AllZip FitsWidth widths x → length (flat_map (flat_map cell.text) x) ≤ length widths * 128
+rows_short : (widths : List ℕ) (x : List (List Cell)) → AllByRecursion (λ w. w ≤ 64) widths
+    → AllZip FitsWidth widths x → length (flat_map (flat_map cell.text) x) ≤ length widths * 128
 rows_short [] [] few fits = omega arith
 rows_short [] (row ∷ x) few fits = absurd fits
 rows_short (width ∷ widths) [] few fits = absurd fits
@@ -106,9 +134,19 @@ rows_short (width ∷ widths) (row ∷ x) few fits =
     let s = cells_short row fits.0.1 in
     let others = rows_short widths x few.1 fits.1 in
     let e = ap length (flat_map-cons (flat_map cell.text) row x) in
-    omega (arith, s, others, e, length-append (flat_map cell.text row) (flat_map (flat_map cell.text) x), fits.0.0, few.0)
+    omega (
+      arith,
+      s,
+      others,
+      e,
+      length-append (flat_map cell.text row)
+          (flat_map (flat_map cell.text) x),
+      fits.0.0,
+      few.0,
+    )
 
-widths_few : (outputs : List Output) → AllByRecursion (λ o. AreChannels o.labels) outputs → AllByRecursion (λ w. w ≤ 64) (map (λ o. length o.labels) outputs)
+widths_few : (outputs : List Output) → AllByRecursion (λ o. AreChannels o.labels) outputs
+    → AllByRecursion (λ w. w ≤ 64) (map (λ o. length o.labels) outputs)
 widths_few [] are = tt
 widths_few (o ∷ outputs) are = (omega (arith, are.0.1), widths_few outputs are.1)
 
@@ -117,15 +155,26 @@ unfolding view rows
 view_short d is = record {
   most = λ v fits.
       let s = last_short.most v.last fits.0 in
-      let few = widths_few d.outputs (recursion_from_All (λ o. AreChannels o.labels) d.outputs is.streams.outputs) in
+      let few = widths_few d.outputs
+      (recursion_from_All (λ o. AreChannels o.labels) d.outputs is.streams.outputs) in
       let r = rows_short (widths_of d) v.rows few fits.1 in
-      let n : length (widths_of d) ≡ length d.outputs = length-map d.outputs (λ o. length o.labels) in
-      omega (arith, s, r, n, is.bounds.few_outputs, length-append (last.text v.last) (flat_map (flat_map cell.text) v.rows));
+      let n : length (widths_of d) ≡ length d.outputs =
+      length-map d.outputs (λ o. length o.labels) in
+      omega (
+        arith,
+        s,
+        r,
+        n,
+        is.bounds.few_outputs,
+        length-append (last.text v.last)
+            (flat_map (flat_map cell.text) v.rows),
+      );
 }
 
 pending_short : IsShort pending 195615
 unfolding pending
-pending_short = struct_short _ _ (then_short (number_short 8) (then_short when_short (then_short (number_short 8) action_short)))
+pending_short = struct_short _ _
+    (then_short (number_short 8) (then_short when_short (then_short (number_short 8) action_short)))
 
 row_fault_short : IsShort row_fault 2
 unfolding row_fault
@@ -135,12 +184,21 @@ refusal_short : (code : ℕ) → IsShort (refusal code) 8
 unfolding refusal
 refusal_short code =
     choose_short code empty_code (constant_short (Refused Empty)) (
-    choose_short code unknown_code (variant_short (λ output. Refused (Unknown output)) if_unknown (shorter 8 (omega arith) byte_short)) (
-    choose_short code bad_channel_code (variant_short (λ p. Refused (BadChannel p.0 p.1)) if_bad_channel (shorter 8 (omega arith) (then_short byte_short byte_short))) (
-    choose_short code locked_code (variant_short (λ output. Refused (Locked output)) if_locked (shorter 8 (omega arith) byte_short)) (
-    choose_short code row_code (variant_short (λ p. Refused (Row p.0 p.1)) if_row (shorter 8 (omega arith) (then_short byte_short row_fault_short))) (
+    choose_short code unknown_code
+    (variant_short (λ output. Refused (Unknown output)) if_unknown
+    (shorter 8 (omega arith) byte_short)) (
+    choose_short code bad_channel_code
+    (variant_short (λ p. Refused (BadChannel p.0 p.1)) if_bad_channel
+    (shorter 8 (omega arith) (then_short byte_short byte_short))) (
+    choose_short code locked_code
+    (variant_short (λ output. Refused (Locked output)) if_locked
+    (shorter 8 (omega arith) byte_short)) (
+    choose_short code row_code
+    (variant_short (λ p. Refused (Row p.0 p.1)) if_row
+    (shorter 8 (omega arith) (then_short byte_short row_fault_short))) (
     choose_short code time_code (constant_short (Refused Time)) (
-    choose_short code not_pending_code (variant_short (λ id. Refused (NotPending id)) if_not_pending (number_short 8)) (
+    choose_short code not_pending_code
+    (variant_short (λ id. Refused (NotPending id)) if_not_pending (number_short 8)) (
     choose_short code full_code (constant_short (Refused Full)) no_form_short)))))))
 
 -- at most 255 pending activations
@@ -153,11 +211,18 @@ two_numbers = shorter most (omega arith) (then_short (number_short 8) (number_sh
 plain_short : (d : DeviceParts) → IsDevice d → IsShort (plain_reply (widths_of d)) (1 + most)
 unfolding plain_reply
 plain_short d is = tagged_short (λ code.
-    choose_short code activated_code (variant_short (λ p. Activated p.0 p.1) if_activated two_numbers) (
-    choose_short code scheduled_code (variant_short (λ p. Scheduled p.0 p.1) if_scheduled two_numbers) (
-    choose_short code deleted_code (variant_short (λ id. Deleted id) if_deleted (shorter most (omega arith) (number_short 8))) (
-    choose_short code active_code (variant_short (λ v. Active v) if_active (shorter most (omega arith) (view_short d is))) (
-    choose_short code pending_code (variant_short (λ items. Pending items) if_pending (shorter most (omega arith) (counted_short pending_short))) (shorter most (omega arith) (refusal_short code)))))))
+    choose_short code activated_code
+    (variant_short (λ p. Activated p.0 p.1) if_activated two_numbers) (
+    choose_short code scheduled_code
+    (variant_short (λ p. Scheduled p.0 p.1) if_scheduled two_numbers) (
+    choose_short code deleted_code
+    (variant_short (λ id. Deleted id) if_deleted (shorter most (omega arith) (number_short 8))) (
+    choose_short code active_code
+    (variant_short (λ v. Active v) if_active (shorter most (omega arith) (view_short d is))) (
+    choose_short code pending_code
+    (variant_short (λ items. Pending items) if_pending
+    (shorter most (omega arith) (counted_short pending_short)))
+    (shorter most (omega arith) (refusal_short code)))))))
 
 -- ---- what a writer asks
 
@@ -179,7 +244,9 @@ holds_plain widths (Scheduled id tick) fits = tt
 holds_plain widths (Deleted id) fits = tt
 holds_plain widths (Active v) fits = tt
 holds_plain widths (Refused refused) fits = tt
-holds_plain widths (Pending items) fits = pending_holds items (taken refl (skip (λ f. f) (skip (λ f. f) (skip (λ f. f) (skip (λ f. f) fits.1))))).0
+holds_plain widths (Pending items) fits =
+    pending_holds items (taken refl
+    (skip (λ f. f) (skip (λ f. f) (skip (λ f. f) (skip (λ f. f) fits.1))))).0
 
 holds_said : (widths : List ℕ) (s : Said) → (said widths).Fits s → HoldsSaid s
 unfolding said
@@ -192,26 +259,40 @@ holds_reply widths r fits = holds_said widths r.said fits.1.1.1
 
 -- ---- plain replies
 
-plain_said_short : (d : DeviceParts) (r : Reply) → IsDevice d → (said (widths_of d)).Fits (Plain r) → length ((said (widths_of d)).text (Plain r)) ≤ 2 + most
+plain_said_short : (d : DeviceParts) (r : Reply) → IsDevice d → (said (widths_of d)).Fits (Plain r)
+    → length ((said (widths_of d)).text (Plain r)) ≤ 2 + most
 unfolding said
 plain_said_short d r is fits =
     let s = (plain_short d is).most r (taken refl fits.1).0 in
     omega (arith, s)
 
-body_short : (d : DeviceParts) (client : ℕ) (at : Stamp) (s : Said) → length ((said (widths_of d)).text s) ≤ 2 + most → length ((reply (widths_of d)).text (reply_item client at s)) < 256 ^ 4
+body_short : (d : DeviceParts) (client : ℕ) (at : Stamp) (s : Said)
+    → length ((said (widths_of d)).text s) ≤ 2 + most
+    → length ((reply (widths_of d)).text (reply_item client at s)) < 256 ^ 4
 unfolding reply
 body_short d client at s short =
     let told = (said (widths_of d)).text s in
-    omega (arith, short, length-number 8 at.calls, length-number 8 at.claims, length-append (number_text 8 at.claims) told, length-append (number_text 8 at.calls) (number_text 8 at.claims ++ told))
+    omega (
+      arith,
+      short,
+      length-number 8 at.calls,
+      length-number 8 at.claims,
+      length-append (number_text 8 at.claims) told,
+      length-append (number_text 8 at.calls)
+          (number_text 8 at.claims ++ told),
+    )
 
 fits_said : (widths : List ℕ) (r : ReplyItem) → (reply widths).Fits r → (said widths).Fits r.said
 unfolding reply
 fits_said widths r fits = fits.1.1.1
 
 -- the record of a plain reply is short: where its fields fit, it can be written
-pub plain_record : (d : DeviceParts) (client : ℕ) (at : Stamp) (r : Reply) → IsDevice d → client < CLIENTS → (reply (widths_of d)).Fits (reply_item client at (Plain r)) → FitsReply d (reply_item client at (Plain r))
+pub plain_record : (d : DeviceParts) (client : ℕ) (at : Stamp) (r : Reply) → IsDevice d
+    → client < CLIENTS → (reply (widths_of d)).Fits (reply_item client at (Plain r))
+    → FitsReply d (reply_item client at (Plain r))
 plain_record d client at r is few fits = record {
   fits = fits;
-  short = body_short d client at (Plain r) (plain_said_short d r is (fits_said (widths_of d) (reply_item client at (Plain r)) fits));
+  short = body_short d client at (Plain r)
+      (plain_said_short d r is (fits_said (widths_of d) (reply_item client at (Plain r)) fits));
   client = few;
 }

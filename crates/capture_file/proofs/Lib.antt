@@ -1,3 +1,4 @@
+pub mod Steps
 pub mod Order
 pub mod Numbered
 pub mod RequestLaws
@@ -13,3 +14,4 @@ pub mod Whole
 pub mod Lengths
 pub mod ResultLaws
 pub mod PartLaws
+pub mod Between

@@ -7,19 +7,28 @@ use Rattle.map_entry.specs.declared.cell.Cell.{Cell}
 use Rattle.map_entry.specs.declared.cell.Cell.TheVariants.{Unrouted, From}
 use Rattle.exact_text.specs.Forms.{tested}
 use Rattle.plain_book.specs.declared.requests.When.TheVariants.{Now, At, After}
-use Rattle.plain_book.specs.declared.requests.Request.TheVariants.{Activate, Delete, Active, Pending}
-use Rattle.capture_file.specs.Tags.{unrouted_input, now_op, at_op, after_op, delete_op, active_op, pending_op}
-use Rattle.capture_file.specs.Requests.{cell_bytes, cell_of, cell, change, output_change, named, action, is_ordered, time, is_time, time_made, request, op_of, if_now, if_at, if_after, if_delete}
-use Rattle.exact_text.proofs.FormLaws.{Lawful, byte_law, number_law, then_law, struct_law, checked_law, passing_law, variant_tagged, constant_tagged, no_form_tagged, choose_tagged, tagged_law, counted_law}
+use Rattle.plain_book.specs.declared.requests.Request.TheVariants.{Activate, Delete, Active}
+use Rattle.plain_book.specs.declared.requests.Request.TheVariants.{Pending}
+use Rattle.capture_file.specs.Tags.{unrouted_input, now_op, at_op, after_op, delete_op, active_op}
+use Rattle.capture_file.specs.Tags.{pending_op}
+use Rattle.capture_file.specs.Requests.{cell_bytes, cell_of, cell, change, output_change, named}
+use Rattle.capture_file.specs.Requests.{action, is_ordered, time, is_time, time_made, request}
+use Rattle.capture_file.specs.Requests.{op_of, if_now, if_at, if_after, if_delete}
+use Rattle.exact_text.proofs.FormLaws.{Lawful, byte_law, number_law, then_law, struct_law}
+use Rattle.exact_text.proofs.FormLaws.{checked_law, passing_law, variant_tagged, constant_tagged}
+use Rattle.exact_text.proofs.FormLaws.{no_form_tagged, choose_tagged, tagged_law, counted_law}
 
-cell_is : (full zero : Bool) (b : ℕ × ℕ) (c : Cell) → (full ≡ true → b.0 ≡ unrouted_input) → (zero ≡ true → b.1 ≡ 0) → cond full (tested zero Unrouted) (given (From b.0 b.1)) ≡ Some c → cell_bytes c ≡ b
+cell_is : (full zero : Bool) (b : ℕ × ℕ) (c : Cell) → (full ≡ true → b.0 ≡ unrouted_input)
+    → (zero ≡ true → b.1 ≡ 0) → cond full (tested zero Unrouted) (given (From b.0 b.1)) ≡ Some c
+    → cell_bytes c ≡ b
 cell_is true zero b c at_full at_zero e =
     let g = guard_some zero Unrouted c e in
     sym (ap cell_bytes g.1) ∙ rw (← at_full refl, ← at_zero g.0) refl
 cell_is false zero b c at_full at_zero e = sym (ap cell_bytes (some_is (From b.0 b.1) c e))
 
 cell_back : (b : ℕ × ℕ) (c : Cell) → cell_of b ≡ Some c → cell_bytes c ≡ b
-cell_back b c e = cell_is (eqb b.0 unrouted_input) (eqb b.1 0) b c (λ t. eqb-true b.0 unrouted_input t) (λ t. eqb-true b.1 0 t) e
+cell_back b c e = cell_is (eqb b.0 unrouted_input) (eqb b.1 0) b c
+    (λ t. eqb-true b.0 unrouted_input t) (λ t. eqb-true b.1 0 t) e
 
 pub cell_law : {Follows : List ℕ → Type 0} → Lawful Follows cell
 unfolding cell
@@ -39,14 +48,19 @@ action_law = passing_law _ is_ordered (λ a. a) (counted_law output_change_law) 
 
 pub time_law : {Follows : List ℕ → Type 0} → Lawful Follows time
 unfolding time
-time_law = passing_law _ is_time time_made (then_law (number_law 8 wide8) (number_law 4 wide4)) (λ p. refl)
+time_law = passing_law _ is_time time_made (then_law (number_law 8 wide8) (number_law 4 wide4))
+    (λ p. refl)
 
 pub request_law : {Follows : List ℕ → Type 0} → Lawful Follows request
 unfolding request
 request_law = tagged_law (λ op.
-    choose_tagged (variant_tagged op_of now_op (λ a. Activate Now a) if_now action_law (λ a. refl) (λ a. refl)) (
-    choose_tagged (variant_tagged op_of at_op (λ p. Activate (At p.0) p.1) if_at (then_law time_law action_law) (λ p. refl) (λ p. refl)) (
-    choose_tagged (variant_tagged op_of after_op (λ p. Activate (After p.0) p.1) if_after (then_law time_law action_law) (λ p. refl) (λ p. refl)) (
-    choose_tagged (variant_tagged op_of delete_op (λ id. Delete id) if_delete (number_law 8 wide8) (λ id. refl) (λ id. refl)) (
+    choose_tagged (variant_tagged op_of now_op (λ a. Activate Now a) if_now action_law (λ a. refl)
+    (λ a. refl)) (
+    choose_tagged (variant_tagged op_of at_op (λ p. Activate (At p.0) p.1) if_at
+    (then_law time_law action_law) (λ p. refl) (λ p. refl)) (
+    choose_tagged (variant_tagged op_of after_op (λ p. Activate (After p.0) p.1) if_after
+    (then_law time_law action_law) (λ p. refl) (λ p. refl)) (
+    choose_tagged (variant_tagged op_of delete_op (λ id. Delete id) if_delete (number_law 8 wide8)
+    (λ id. refl) (λ id. refl)) (
     choose_tagged (constant_tagged op_of active_op Active refl) (
     choose_tagged (constant_tagged op_of pending_op Pending refl) (no_form_tagged op_of op)))))))

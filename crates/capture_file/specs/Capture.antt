@@ -1,5 +1,6 @@
 -- What a capture is, and which bytes are its text. (This project's own.)
-use Rattle.std.specs.Prelude.{◌≡◌, ℕ, ◌*◌, ◌≤◌, List, ◌++◌, length, take, All, codes, Result, Ok, Err}
+use Rattle.std.specs.Prelude.{◌≡◌, ℕ, ◌*◌, ◌≤◌, List, ◌++◌, length, take, All, codes, Result, Ok}
+use Rattle.std.specs.Prelude.{Err}
 use Rattle.std.specs.List.{flat_map, sum_by}
 use Rattle.io_caps.specs.declared.limits.TheConstants.{CAPTURE_TICKS}
 use Rattle.io_caps.specs.declared.memory.Or.{Or}
@@ -29,8 +30,8 @@ capture_of setup items ticks = record { setup = setup; items = items; ticks = ti
 abbrev pub AreTicks : ℕ → List Item → ℕ → Type 0
 AreTicks outputs items ticks = (sum_by claims_of items ≡ ticks * outputs) × (ticks ≤ CAPTURE_TICKS)
 
--- The device and its base rows are in order, the claims are those of whole ticks, of which there are not too many, and the
--- records name inputs and clients that are there.
+-- The device and its base rows are in order, the claims are those of whole ticks, of which there
+-- are not too many, and the records name inputs and clients that are there.
 pub record IsCapture (c : CaptureParts) : Type 0 where
   pub setup : IsSetup c.setup
   pub work : sum_by claims_of c.items ≡ c.ticks * length c.setup.device.outputs
@@ -48,7 +49,8 @@ abbrev pub form_tag : DeviceForm → ℕ
 form_tag Plain = device_tag
 form_tag Json = json_device_tag
 
--- the body says this device with its base rows in a form: it spells them, or it is a JSON text that says them
+-- the body says this device with its base rows in a form: it spells them, or it is a JSON text that
+-- says them
 abbrev pub SaysBase : DeviceForm → List ℕ → SetupParts → Type 0
 SaysBase Plain body setup = IsSpelled device body (setup.device, setup.rows)
 SaysBase Json body setup = Says body setup
@@ -70,12 +72,14 @@ pub record Opens (bytes : List ℕ) (setup : SetupParts) (behind : List ℕ) : T
   pub device : IsDeviceRecord setup of
   pub parts : bytes ≡ capture_magic ++ (text_of of ++ behind)
 
--- records behind the device of so many inputs: they name what is there, and their numbers are in the range of their fields
+-- records behind the device of so many inputs: they name what is there, and their numbers are in
+-- the range of their fields
 pub record AreItems (inputs : ℕ) (items : List Item) : Type 0 where
   pub there : All (IsItemThere inputs) items
   pub fit : All item.Fits items
 
--- These bytes are a text of this capture: the magic and a record of its device, its other records in order, and the last record.
+-- These bytes are a text of this capture: the magic and a record of its device, its other records
+-- in order, and the last record.
 pub record IsCaptureText (c : CaptureParts) (text : List ℕ) : Type 0 where
   pub opens : Opens text c.setup (flat_map item.text c.items ++ end_text)
   pub items : AreItems (length c.setup.device.inputs) c.items

@@ -1,5 +1,6 @@
 -- How a plain device stands in bytes. (This project's own.)
-use Rattle.std.specs.Prelude.{ℕ, ◌+◌, Bool, true, false, List, [], ◌∷◌, length, map, Option, Some, None, ◌==◌, if◌then◌else◌}
+use Rattle.std.specs.Prelude.{ℕ, ◌+◌, Bool, true, false, List, [], ◌∷◌, length, map, Option, Some}
+use Rattle.std.specs.Prelude.{None, ◌==◌, if◌then◌else◌}
 use Rattle.std.specs.Fmt.{decimal}
 use Rattle.std.specs.List.{range_with_len}
 use Rattle.io_caps.specs.declared.rate.Width.{Width}
@@ -13,7 +14,8 @@ use Rattle.io_caps.specs.declared.port.Routable.TheVariants.{All as Anything, On
 use Rattle.map_entry.specs.declared.cell.Cell.{Cell}
 use Rattle.capture_file.specs.declared.device.Target.{Target}
 use Rattle.capture_file.specs.Tags.{bits_16, bits_24, all_routable, unrouted_member}
-use Rattle.exact_text.specs.Forms.{Form, byte, number, many_of, led, ◌▸◌, struct, checked, tested, counted_text}
+use Rattle.exact_text.specs.Forms.{Form, byte, number, many_of, led, ◌▸◌, struct, checked, tested}
+use Rattle.exact_text.specs.Forms.{counted_text}
 use Rattle.capture_file.specs.Requests.{cell}
 
 -- the byte of a width: 16 (L16) or 24 (L24)
@@ -82,7 +84,8 @@ routable = checked (led byte (λ n. many_of (members_after n) member)) routable_
 
 -- ---- inputs and outputs
 
--- an input by its id, labels, width, payload type, block size and reordering: its name is its id, and nothing else is said of it
+-- an input by its id, labels, width, payload type, block size and reordering: its name is its id,
+-- and nothing else is said of it
 abbrev pub plain_input : List ℕ × (List (List ℕ) × (Width × (ℕ × (ℕ × Bool)))) → Input
 plain_input (id, (labels, (w, (payload_type, (block_size, reordering))))) = record {
   id = id;
@@ -102,7 +105,8 @@ input = checked (counted_text ▸ channels ▸ width ▸ byte ▸ byte ▸ flag)
     (λ i. (i.id, (i.labels, (i.width, (i.payload_type, (i.block_size, i.reordering))))))
     (λ p. Some (plain_input p))
 
--- an output by its id, labels, width, payload type, SSRC and routable list: its name is its id, and nothing else is said of it
+-- an output by its id, labels, width, payload type, SSRC and routable list: its name is its id, and
+-- nothing else is said of it
 abbrev pub plain_output : List ℕ × (List (List ℕ) × (Width × (ℕ × (ℕ × Routable)))) → Output
 plain_output (id, (labels, (w, (payload_type, (ssrc, list))))) = record {
   id = id;
@@ -124,7 +128,8 @@ output = checked (counted_text ▸ channels ▸ width ▸ byte ▸ number 4 ▸ 
 
 -- an output, and a cell for each of its channels
 unfoldable pub target : Form Target
-target = struct (led output (λ o. many_of (length o.labels) cell)) (λ t. (t.output, t.row)) (λ p. record { output = p.0; row = p.1 })
+target = struct (led output (λ o. many_of (length o.labels) cell)) (λ t. (t.output, t.row))
+    (λ p. record { output = p.0; row = p.1 })
 
 -- ---- the device
 
@@ -144,7 +149,8 @@ targets_of (o ∷ outputs) (row ∷ rows) = record { output = o; row = row } ∷
 
 -- the numbers of inputs and outputs, the inputs, the outputs with their rows
 unfoldable pub ports : Form (List Input × List Target)
-ports = struct (led (byte ▸ byte) (λ n. many_of n.0 input ▸ many_of n.1 target)) (λ p. ((length p.0, length p.1), p)) (λ q. q.1)
+ports = struct (led (byte ▸ byte) (λ n. many_of n.0 input ▸ many_of n.1 target))
+    (λ p. ((length p.0, length p.1), p)) (λ q. q.1)
 
 -- a device and its base rows
 abbrev pub Base : Type 0
@@ -152,11 +158,25 @@ Base = DeviceParts × List (List Cell)
 
 -- a device and its base rows by their fields
 abbrev pub device_of : ℕ × (ℕ × (ℕ × (ℕ × (List Input × List Target)))) → Base
-device_of (hz, (frames, (base, (hold, (inputs, targets))))) =
-    (record { rate = record { hz = hz; frames = frames }; base = base; hold = hold; inputs = inputs; outputs = outputs_of targets }, rows_of targets)
+device_of (hz, (frames, (base, (hold, (inputs, targets))))) = (
+  record {
+    rate = record { hz = hz; frames = frames };
+    base = base;
+    hold = hold;
+    inputs = inputs;
+    outputs = outputs_of targets;
+  },
+  rows_of targets,
+)
 
 -- rate, base, hold, the ports
 unfoldable pub device : Form Base
 device = checked (number 4 ▸ number 2 ▸ number 8 ▸ byte ▸ ports)
-    (λ s. (s.0.rate.hz, (s.0.rate.frames, (s.0.base, (s.0.hold, (s.0.inputs, targets_of s.0.outputs s.1))))))
+    (λ s. (
+      s.0.rate.hz,
+      (
+        s.0.rate.frames,
+        (s.0.base, (s.0.hold, (s.0.inputs, targets_of s.0.outputs s.1))),
+      ),
+    ))
     (λ p. Some (device_of p))

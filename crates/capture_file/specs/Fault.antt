@@ -1,12 +1,14 @@
 -- The first fault of bytes that are no capture, and its place. (This project's own.)
-use Rattle.std.specs.Prelude.{◌≡◌, ℕ, ◌+◌, ◌<◌, ◌||◌, List, [], ◌∷◌, ◌++◌, length, All, Result, Ok, Err, ◌⊎◌, ◌==◌, if◌then◌else◌}
+use Rattle.std.specs.Prelude.{◌≡◌, ℕ, ◌+◌, ◌<◌, ◌||◌, List, [], ◌∷◌, ◌++◌, length, All, Result, Ok}
+use Rattle.std.specs.Prelude.{Err, ◌⊎◌, ◌==◌, if◌then◌else◌}
 use Rattle.std.specs.List.{flat_map}
 use Rattle.io_caps.specs.declared.memory.Or.{Or}
 use Rattle.map_entry.specs.Setup.{SetupParts}
 use Rattle.exact_text.specs.Forms.{IsSpelled}
 use Rattle.capture_file.specs.declared.fault.CaptureFault.{CaptureFault}
 use Rattle.capture_file.specs.declared.fault.CaptureKind.{CaptureKind}
-use Rattle.capture_file.specs.declared.fault.CaptureKind.TheVariants.{Magic, Cut, Tag, Order, Device, Body, Work}
+use Rattle.capture_file.specs.declared.fault.CaptureKind.TheVariants.{Magic, Cut, Tag, Order}
+use Rattle.capture_file.specs.declared.fault.CaptureKind.TheVariants.{Device, Body, Work}
 use Rattle.capture_file.specs.declared.items.Item.{Item}
 use Rattle.capture_file.specs.declared.before.DeviceForm.{DeviceForm}
 use Rattle.capture_file.specs.declared.before.DeviceForm.TheVariants.{Plain, Json}
@@ -14,9 +16,11 @@ use Rattle.capture_file.specs.declared.before.Sort.{Sort}
 use Rattle.capture_file.specs.declared.before.Sort.TheVariants.{AnItem, AnEnd, AFault}
 use Rattle.capture_file.specs.declared.walk.Step.{Step}
 use Rattle.capture_file.specs.declared.walk.Step.TheVariants.{Next, Last}
-use Rattle.capture_file.specs.Tags.{device_tag, json_device_tag, packet_tag, piece_tag, ask_tag, work_tag, end_tag}
+use Rattle.capture_file.specs.Tags.{device_tag, json_device_tag, packet_tag, piece_tag, ask_tag}
+use Rattle.capture_file.specs.Tags.{work_tag, end_tag}
 use Rattle.capture_file.specs.Items.{item, item_body, IsItemThere}
-use Rattle.capture_file.specs.Capture.{CaptureParts, capture_of, capture_magic, AreItems, AreTicks, IsBase, Opens}
+use Rattle.capture_file.specs.Capture.{CaptureParts, capture_of, capture_magic, AreItems, AreTicks}
+use Rattle.capture_file.specs.Capture.{IsBase, Opens}
 use Rattle.capture_file.specs.Walk.{IfFault, IsCut, IsFaulty, Stands}
 
 -- ---- the first record
@@ -26,13 +30,16 @@ abbrev pub device_form : ℕ → Result DeviceForm CaptureKind
 device_form tag =
     if tag == device_tag then Ok Plain
     else (if tag == json_device_tag then Ok Json
-    else (if tag == packet_tag || (tag == piece_tag || (tag == ask_tag || (tag == work_tag || tag == end_tag))) then Err Order
+    else (if tag == packet_tag
+    || (tag == piece_tag || (tag == ask_tag || (tag == work_tag || tag == end_tag))) then Err Order
     else Err Tag))
 
--- what a device record opens: a device in order, or the fault `Device`, where its body says none in this form
+-- what a device record opens: a device in order, or the fault `Device`, where its body says none in
+-- this form
 abbrev pub IsOpened : DeviceForm → List ℕ → Result SetupParts CaptureKind → Type 0
 IsOpened form body (Ok setup) = IsBase form body setup
-IsOpened form body (Err kind) = (kind ≡ Device) × ((setup : SetupParts) → IsBase form body setup → ⊥)
+IsOpened form body (Err kind) =
+    (kind ≡ Device) × ((setup : SetupParts) → IsBase form body setup → ⊥)
 
 -- what the first record opens, where its tag can be that of one
 abbrev pub IsFirst : Result DeviceForm CaptureKind → List ℕ → Result SetupParts CaptureKind → Type 0
@@ -41,11 +48,12 @@ IsFirst (Ok form) body judged = IsOpened form body judged
 
 -- ---- the others
 
--- what a tag says behind the device
+-- what a tag says behind the device: a second device is `Order`, a tag that isn't known `Tag`
 abbrev pub sort_of : ℕ → Sort
 sort_of tag =
     if tag == device_tag || tag == json_device_tag then AFault Order
-    else (if tag == packet_tag || (tag == piece_tag || (tag == ask_tag || tag == work_tag)) then AnItem
+    else (if tag == packet_tag
+    || (tag == piece_tag || (tag == ask_tag || tag == work_tag)) then AnItem
     else (if tag == end_tag then AnEnd
     else AFault Tag))
 
@@ -64,30 +72,41 @@ IsBefore b = All (IsItemThere (length b.setup.device.inputs)) b.items
 
 -- the body of a tag spells this record, which names what is there
 abbrev pub IsRead : SetupParts → ℕ → List ℕ → Item → Type 0
-IsRead setup tag body item = IsItemThere (length setup.device.inputs) item × IsSpelled (item_body tag) body item
+IsRead setup tag body item =
+    IsItemThere (length setup.device.inputs) item × IsSpelled (item_body tag) body item
 
 -- a record is added to those before it, or has the fault `Body`, where its body spells none
-abbrev pub IsTaken : BeforeParts → ℕ → List ℕ → Result (Step BeforeParts CaptureParts) CaptureKind → Type 0
-IsTaken b tag body (Ok (Next next)) = (item : Item) × (IsRead b.setup tag body item × (next ≡ before b.setup (b.items ++ item ∷ [])))
+abbrev pub IsTaken : BeforeParts → ℕ → List ℕ → Result (Step BeforeParts CaptureParts) CaptureKind
+    → Type 0
+IsTaken b tag body (Ok (Next next)) =
+    (item : Item) × (IsRead b.setup tag body item × (next ≡ before b.setup (b.items ++ item ∷ [])))
 IsTaken b tag body (Ok (Last capture)) = ⊥
 IsTaken b tag body (Err kind) = (kind ≡ Body) × ((item : Item) → IsRead b.setup tag body item → ⊥)
 
--- the last record has no body, or the fault `Body`; the claims before it fill whole ticks, or it has the fault `Work`
-abbrev pub IsEnded : BeforeParts → List ℕ → Result (Step BeforeParts CaptureParts) CaptureKind → Type 0
+-- the last record has no body, or the fault `Body`; the claims before it fill whole ticks, or it
+-- has the fault `Work`
+abbrev pub IsEnded : BeforeParts → List ℕ → Result (Step BeforeParts CaptureParts) CaptureKind
+    → Type 0
 IsEnded b body (Ok (Next next)) = ⊥
-IsEnded b body (Ok (Last c)) = (body ≡ []) × ((0 < length b.setup.device.outputs) × ((c ≡ capture_of b.setup b.items c.ticks) × AreTicks (length b.setup.device.outputs) b.items c.ticks))
+IsEnded b body (Ok (Last c)) =
+    (body ≡ []) × ((0 < length b.setup.device.outputs)
+    × ((c ≡ capture_of b.setup b.items c.ticks)
+    × AreTicks (length b.setup.device.outputs) b.items c.ticks))
 IsEnded b body (Err kind) =
     ((kind ≡ Body) × (body ≡ [] → ⊥))
-    ⊎ ((kind ≡ Work) × ((body ≡ []) × ((ticks : ℕ) → AreTicks (length b.setup.device.outputs) b.items ticks → ⊥)))
+    ⊎ ((kind ≡ Work) × ((body ≡ [])
+    × ((ticks : ℕ) → AreTicks (length b.setup.device.outputs) b.items ticks → ⊥)))
 
 -- what a record of this sort does to what stands before it, or its fault
-abbrev pub IsLater : Sort → BeforeParts → ℕ → List ℕ → Result (Step BeforeParts CaptureParts) CaptureKind → Type 0
+abbrev pub IsLater : Sort → BeforeParts → ℕ → List ℕ
+    → Result (Step BeforeParts CaptureParts) CaptureKind → Type 0
 IsLater (AFault kind) b tag body judged = judged ≡ Err kind
 IsLater AnItem b tag body judged = IsTaken b tag body judged
 IsLater AnEnd b tag body judged = IsEnded b body judged
 
 -- what a record behind the device does to what stands before it, or its fault
-abbrev pub Judges : BeforeParts → ℕ → List ℕ → Result (Step BeforeParts CaptureParts) CaptureKind → Type 0
+abbrev pub Judges : BeforeParts → ℕ → List ℕ → Result (Step BeforeParts CaptureParts) CaptureKind
+    → Type 0
 Judges b tag body judged = IsLater (sort_of tag) b tag body judged
 
 -- ---- the first fault
@@ -110,7 +129,8 @@ pub record HasNoDevice (bytes : List ℕ) (at : ℕ) (kind : CaptureKind) : Type
   pub place : at ≡ length capture_magic
   pub faulty : (IsCut behind × (kind ≡ Cut)) ⊎ OpensNothing behind kind
 
--- the magic, a record of a device, and good records; and behind these, at this place, no whole record, or one with this fault
+-- the magic, a record of a device, and good records; and behind these, at this place, no whole
+-- record, or one with this fault
 pub record StopsAt (bytes : List ℕ) (at : ℕ) (kind : CaptureKind) : Type 0 where
   pub setup : SetupParts
   pub items : List Item
@@ -120,8 +140,8 @@ pub record StopsAt (bytes : List ℕ) (at : ℕ) (kind : CaptureKind) : Type 0 w
   pub place : at + length behind ≡ length bytes
   pub faulty : IsFaulty Judges Cut (before setup items) behind kind
 
--- The first fault of bytes and its place: they do not begin with the magic; or what stands behind it is no device record; or what
--- stands behind that and good records is faulty.
+-- The first fault of bytes and its place: they do not begin with the magic; or what stands behind
+-- it is no device record; or what stands behind that and good records is faulty.
 abbrev pub FaultIs : List ℕ → ℕ → CaptureKind → Type 0
 FaultIs bytes at kind =
     (HasNoMagic bytes × ((at ≡ 0) × (kind ≡ Magic)))

@@ -2,7 +2,8 @@
 use Rattle.std.specs.Prelude.{ℕ, ◌<◌, List, [], Option, Some, None}
 use Rattle.io_caps.specs.declared.limits.TheConstants.{CLIENTS}
 use Rattle.plain_book.specs.declared.requests.Request.{Request}
-use Rattle.exact_text.specs.Forms.{Form, byte, number, all_left, ◌▸◌, variant, no_form, choose, in_record}
+use Rattle.exact_text.specs.Forms.{Form, byte, number, all_left, ◌▸◌, variant, no_form, choose}
+use Rattle.exact_text.specs.Forms.{in_record}
 use Rattle.exact_text.specs.Spellings.{record_text}
 use Rattle.capture_file.specs.declared.items.Item.{Item}
 use Rattle.capture_file.specs.declared.items.Item.TheVariants.{Packet, Piece, Ask, Work}
@@ -36,8 +37,8 @@ abbrev pub if_work : Item → Option ℕ
 if_work (Work claims) = Some claims
 if_work other = None
 
--- the body of a record: a packet's input and its bytes; a client and the bytes of a piece of its stream; a client and its request; a
--- number of claims
+-- the body of a record: a packet's input and its bytes; a client and the bytes of a piece of its
+-- stream; a client and its request; a number of claims
 unfoldable pub item_body : ℕ → Form Item
 item_body tag =
     choose tag packet_tag (variant (byte ▸ all_left) (λ p. Packet p.0 p.1) if_packet) (

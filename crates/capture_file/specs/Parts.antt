@@ -1,5 +1,6 @@
 -- Parts of a history, as they are written. (This project's own.)
-use Rattle.std.specs.Prelude.{ℕ, ◌+◌, ◌<◌, ◌^◌, List, [], ◌++◌, length}
+use Rattle.std.specs.Prelude.{ℕ, ◌+◌, ◌<◌, ◌^◌, Bool, List, [], ◌∷◌, ◌++◌, length}
+use Rattle.byteorder.specs.Endian.{big_bytes}
 use Rattle.std.specs.List.{AllByRecursion, flat_map}
 use Rattle.plain_book.specs.declared.calls.JournalCall.{JournalCall}
 use Rattle.plain_book.specs.declared.history.ClaimItem.{ClaimItem}
@@ -8,6 +9,9 @@ use Rattle.plain_book.specs.declared.history.Said.{Said}
 use Rattle.plain_book.specs.declared.history.Said.TheVariants.{Plain, Http}
 use Rattle.plain_book.specs.History.{history_of}
 use Rattle.capture_file.specs.declared.entries.ResultItem.TheVariants.{Claim, Call, Reply as AReply}
+use Rattle.exact_text.specs.Forms.{number_text}
+use Rattle.capture_file.specs.Device.{flag}
+use Rattle.capture_file.specs.Tags.{claim_tag}
 use Rattle.capture_file.specs.Replies.{HoldsReply}
 use Rattle.capture_file.specs.Records.{calls_at, replies_at, claim_at, records_from}
 use Rattle.capture_file.specs.Result.{reply, bytes_of, FitsCall}
@@ -25,14 +29,32 @@ reply_bytes r = bytes_of (AReply r)
 abbrev pub claim_bytes : ClaimItem → List ℕ
 claim_bytes c = bytes_of (Claim c)
 
--- the bytes of what stands at a number of claims: the calls, the replies, and the claim
+-- The bytes of what stands between two claims, at a number of claims: the calls that were accepted
+-- there, and the replies that were given there.
+abbrev pub between_bytes : ℕ → List JournalCall → List ReplyItem → List ℕ
+between_bytes number calls replies =
+    flat_map call_bytes (calls_at number calls) ++ flat_map reply_bytes (replies_at number replies)
+
+-- the bytes of what stands at a number of claims: what stands in front of the claim, and the claim
 abbrev pub bytes_at : ℕ → List JournalCall → List ReplyItem → List ClaimItem → List ℕ
 bytes_at number calls replies claims =
-    flat_map call_bytes (calls_at number calls) ++ (flat_map reply_bytes (replies_at number replies) ++ flat_map claim_bytes (claim_at number claims))
+    between_bytes number calls replies ++ flat_map claim_bytes (claim_at number claims)
+
+-- The front of a claim's record, which is all of it but the packet, of so many bytes: tag, length,
+-- the claim's number, and a flag for each input.
+abbrev pub claim_front : ℕ → List Bool → ℕ → List ℕ
+claim_front k found len =
+    claim_tag ∷ (big_bytes 4 (length found + len + 8)
+    ++ (number_text 8 k ++ flat_map flag.text found))
 
 -- the bytes of what stands at so many numbers of claims, from one on
 abbrev pub range_bytes : ℕ → ℕ → List JournalCall → List ReplyItem → List ClaimItem → List ℕ
-range_bytes from count calls replies claims = flat_map bytes_of (records_from (history_of claims calls replies) from count)
+range_bytes from count calls replies claims =
+    flat_map bytes_of (records_from (history_of claims calls replies) from count)
+
+-- the bytes of a claim's record behind what stands between it and the claim before it
+abbrev pub woven_bytes : (ℕ → ClaimItem) → List JournalCall → List ReplyItem → ℕ → List ℕ
+woven_bytes claim_of calls replies k = between_bytes k calls replies ++ claim_bytes (claim_of k)
 
 -- what was said fits its fields
 abbrev pub HoldsSaid : Said → Type 0
@@ -47,17 +69,29 @@ HoldsItem r = HoldsSaid r.said × (length ((reply []).text r) < 2 ^ 32)
 abbrev pub IsShortClaim : ClaimItem → Type 0
 IsShortClaim c = length c.found + length c.packet + 8 < 2 ^ 32
 
--- calls, replies and claims from a number of claims on, in order, each of which a record can hold
-pub record IsLeft (number : ℕ) (calls : List JournalCall) (replies : List ReplyItem) (claims : List ClaimItem) : Type 0 where
+-- calls and replies from a number of claims on, in order, each of which a record can hold
+pub record AreLeft (number : ℕ) (calls : List JournalCall) (replies : List ReplyItem) : Type 0 where
   pub calls_rise : IsRisingFrom (λ c. c.at) number calls
   pub replies_rise : IsRisingFrom (λ r. r.stamp.claims) number replies
-  pub claims_rise : IsRisingFrom (λ c. c.k) number claims
   pub calls_fit : AllByRecursion FitsCall calls
   pub replies_fit : AllByRecursion HoldsItem replies
+
+-- and claims
+pub record IsLeft (number : ℕ) (calls : List JournalCall) (replies : List ReplyItem)
+    (claims : List ClaimItem) : Type 0 where
+  pub between : AreLeft number calls replies
+  pub claims_rise : IsRisingFrom (λ c. c.k) number claims
   pub claims_fit : AllByRecursion IsShortClaim claims
 
--- what is held back: of each of the three lists the items from a number of claims on
-pub record IsHeld (number : ℕ) (calls : List JournalCall) (replies : List ReplyItem) (claims : List ClaimItem) (calls_held : List JournalCall) (replies_held : List ReplyItem) (claims_held : List ClaimItem) : Type 0 where
+-- what is held back: the calls and replies from a number of claims on
+pub record AreHeld (number : ℕ) (calls : List JournalCall) (replies : List ReplyItem)
+    (calls_held : List JournalCall) (replies_held : List ReplyItem) : Type 0 where
   pub later_calls : IsFromOn (λ c. c.at) number calls calls_held
   pub later_replies : IsFromOn (λ r. r.stamp.claims) number replies replies_held
+
+-- and the claims
+pub record IsHeld (number : ℕ) (calls : List JournalCall) (replies : List ReplyItem)
+    (claims : List ClaimItem) (calls_held : List JournalCall) (replies_held : List ReplyItem)
+    (claims_held : List ClaimItem) : Type 0 where
+  pub between : AreHeld number calls replies calls_held replies_held
   pub later_claims : IsFromOn (λ c. c.k) number claims claims_held

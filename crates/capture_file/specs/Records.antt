@@ -20,7 +20,8 @@ replies_at claims replies = filter (λ r. r.stamp.claims == claims) replies
 abbrev pub claim_at : ℕ → List ClaimItem → List ClaimItem
 claim_at number claims = filter (λ c. c.k == number) claims
 
--- the records at a number of claims: the calls that were accepted then, the replies that were given then, and the claim
+-- the records at a number of claims: the calls that were accepted then, the replies that were given
+-- then, and the claim
 unfoldable pub records_at : History → ℕ → List ResultItem
 records_at h claims =
     map (λ c. Call c) (calls_at claims h.journal)
@@ -52,8 +53,8 @@ abbrev pub if_reply : ResultItem → Option ReplyItem
 if_reply (Reply r) = Some r
 if_reply other = None
 
--- Nothing of a history is left out of its records: they have all its calls, all its replies and all its claims, each once and in
--- order.
+-- Nothing of a history is left out of its records: they have all its calls, all its replies and all
+-- its claims, each once and in order.
 pub record ShowsAll (h : History) : Type 0 where
   pub calls : filter_map if_call (records_of h) ≡ h.journal
   pub replies : filter_map if_reply (records_of h) ≡ h.replies

@@ -1,24 +1,34 @@
 -- How replies stand in bytes. (This project's own.)
-use Rattle.std.specs.Prelude.{ℕ, ◌<◌, List, [], ◌∷◌, length, All, Option, Some, None, ◌==◌, if◌then◌else◌}
+use Rattle.std.specs.Prelude.{ℕ, ◌<◌, List, [], ◌∷◌, length, All, Option, Some, None, ◌==◌}
+use Rattle.std.specs.Prelude.{if◌then◌else◌}
 use Rattle.std.specs.List.{AllZip, flat_map}
 use Rattle.tai_time.specs.Time.{TaiTime}
 use Rattle.map_entry.specs.Action.{OutputChangeParts}
 use Rattle.map_entry.specs.declared.cell.Cell.{Cell}
 use Rattle.map_entry.specs.declared.fault.RowFault.{RowFault}
-use Rattle.map_entry.specs.declared.fault.RowFault.TheVariants.{Input, Channel, NotRoutable, Block, Order}
+use Rattle.map_entry.specs.declared.fault.RowFault.TheVariants.{Input, Channel, NotRoutable, Block}
+use Rattle.map_entry.specs.declared.fault.RowFault.TheVariants.{Order}
 use Rattle.plain_book.specs.declared.requests.When.{When}
 use Rattle.plain_book.specs.declared.requests.When.TheVariants.{Now, At, After}
 use Rattle.plain_book.specs.declared.replies.Activation.{Activation}
 use Rattle.plain_book.specs.declared.replies.ActiveView.{ActiveView}
 use Rattle.plain_book.specs.declared.replies.PendingItem.{PendingItem}
 use Rattle.plain_book.specs.declared.replies.Refusal.{Refusal}
-use Rattle.plain_book.specs.declared.replies.Refusal.TheVariants.{Empty, Unknown, BadChannel, Locked, Row, Time, NotPending, Full}
+use Rattle.plain_book.specs.declared.replies.Refusal.TheVariants.{Empty, Unknown, BadChannel}
+use Rattle.plain_book.specs.declared.replies.Refusal.TheVariants.{Locked, Row, Time, NotPending}
+use Rattle.plain_book.specs.declared.replies.Refusal.TheVariants.{Full}
 use Rattle.plain_book.specs.declared.replies.Reply.{Reply}
-use Rattle.plain_book.specs.declared.replies.Reply.TheVariants.{Activated, Scheduled, Deleted, Active, Pending, Refused}
+use Rattle.plain_book.specs.declared.replies.Reply.TheVariants.{Activated, Scheduled, Deleted}
+use Rattle.plain_book.specs.declared.replies.Reply.TheVariants.{Active, Pending, Refused}
 use Rattle.plain_book.specs.Replies.{activation, active_view, pending_item}
 use Rattle.exact_text.specs.Readings.{◌>>=◌, many_at}
-use Rattle.exact_text.specs.Forms.{Form, byte, number, many_of, ◌▸◌, struct, checked, variant, constant, no_form, choose, tagged, counted}
-use Rattle.capture_file.specs.Tags.{now_op, at_op, after_op, activated_code, scheduled_code, deleted_code, active_code, pending_code, empty_code, unknown_code, bad_channel_code, locked_code, row_code, time_code, not_pending_code, full_code, input_check, channel_check, routable_check, block_check, order_check}
+use Rattle.exact_text.specs.Forms.{Form, byte, number, many_of, ◌▸◌, struct, checked, variant}
+use Rattle.exact_text.specs.Forms.{constant, no_form, choose, tagged, counted}
+use Rattle.capture_file.specs.Tags.{now_op, at_op, after_op, activated_code, scheduled_code}
+use Rattle.capture_file.specs.Tags.{deleted_code, active_code, pending_code, empty_code}
+use Rattle.capture_file.specs.Tags.{unknown_code, bad_channel_code, locked_code, row_code}
+use Rattle.capture_file.specs.Tags.{time_code, not_pending_code, full_code, input_check}
+use Rattle.capture_file.specs.Tags.{channel_check, routable_check, block_check, order_check}
 use Rattle.capture_file.specs.Requests.{cell, action, time}
 
 -- ---- when
@@ -67,7 +77,8 @@ if_last a = a
 
 -- 0, or 1 and the activation
 unfoldable pub last : Form (Option Activation)
-last = tagged last_tag (λ t. choose t 0 (constant None) (choose t 1 (variant shown (λ a. Some a) if_last) no_form))
+last = tagged last_tag
+    (λ t. choose t 0 (constant None) (choose t 1 (variant shown (λ a. Some a) if_last) no_form))
 
 -- rows of so many cells each
 abbrev pub rows_at : List ℕ → List ℕ → Option (List (List Cell) × List ℕ)
@@ -101,7 +112,8 @@ pending_made (id, (w, (tick, a))) = pending_item id w tick a
 
 -- id, when, tick, action
 unfoldable pub pending : Form PendingItem
-pending = struct (number 8 ▸ when ▸ number 8 ▸ action) (λ p. (p.id, (p.when, (p.tick, p.action)))) pending_made
+pending = struct (number 8 ▸ when ▸ number 8 ▸ action) (λ p. (p.id, (p.when, (p.tick, p.action))))
+    pending_made
 
 -- ---- refusals
 
@@ -204,19 +216,23 @@ unfoldable pub refusal : ℕ → Form Reply
 refusal code =
     choose code empty_code (constant (Refused Empty)) (
     choose code unknown_code (variant byte (λ output. Refused (Unknown output)) if_unknown) (
-    choose code bad_channel_code (variant (byte ▸ byte) (λ p. Refused (BadChannel p.0 p.1)) if_bad_channel) (
+    choose code bad_channel_code
+    (variant (byte ▸ byte) (λ p. Refused (BadChannel p.0 p.1)) if_bad_channel) (
     choose code locked_code (variant byte (λ output. Refused (Locked output)) if_locked) (
     choose code row_code (variant (byte ▸ row_fault) (λ p. Refused (Row p.0 p.1)) if_row) (
     choose code time_code (constant (Refused Time)) (
-    choose code not_pending_code (variant (number 8) (λ id. Refused (NotPending id)) if_not_pending) (
+    choose code not_pending_code (variant (number 8) (λ id. Refused (NotPending id)) if_not_pending)
+    (
     choose code full_code (constant (Refused Full)) no_form)))))))
 
--- A code, and then: id and tick; an id; the active map, with so many channels of each output; the number of pending activations
--- and these; what a refusal names.
+-- A code, and then: id and tick; an id; the active map, with so many channels of each output; the
+-- number of pending activations and these; what a refusal names.
 unfoldable pub reply : List ℕ → Form Reply
 reply widths = tagged code_of (λ code.
-    choose code activated_code (variant (number 8 ▸ number 8) (λ p. Activated p.0 p.1) if_activated) (
-    choose code scheduled_code (variant (number 8 ▸ number 8) (λ p. Scheduled p.0 p.1) if_scheduled) (
+    choose code activated_code (variant (number 8 ▸ number 8) (λ p. Activated p.0 p.1) if_activated)
+    (
+    choose code scheduled_code (variant (number 8 ▸ number 8) (λ p. Scheduled p.0 p.1) if_scheduled)
+    (
     choose code deleted_code (variant (number 8) (λ id. Deleted id) if_deleted) (
     choose code active_code (variant (view widths) (λ v. Active v) if_active) (
     choose code pending_code (variant (counted pending) (λ items. Pending items) if_pending) (

@@ -1,5 +1,6 @@
 -- How requests stand in bytes. (This project's own.)
-use Rattle.std.specs.Prelude.{ℕ, ◌+◌, nat_lt, Bool, true, ◌&&◌, not, List, [], ◌∷◌, map, Option, Some, None, ◌==◌, if◌then◌else◌}
+use Rattle.std.specs.Prelude.{ℕ, ◌+◌, nat_lt, Bool, true, ◌&&◌, not, List, [], ◌∷◌, map, Option}
+use Rattle.std.specs.Prelude.{Some, None, ◌==◌, if◌then◌else◌}
 use Rattle.std.specs.List.{list_all}
 use Rattle.tai_time.specs.Time.{TaiTime, secs_limit, second}
 use Rattle.map_entry.specs.Action.{OutputChangeParts, output_change as changes_of}
@@ -8,9 +9,12 @@ use Rattle.map_entry.specs.declared.cell.Cell.{Cell}
 use Rattle.map_entry.specs.declared.cell.Cell.TheVariants.{Unrouted, From}
 use Rattle.plain_book.specs.declared.requests.When.TheVariants.{Now, At, After}
 use Rattle.plain_book.specs.declared.requests.Request.{Request}
-use Rattle.plain_book.specs.declared.requests.Request.TheVariants.{Activate, Delete, Active, Pending}
-use Rattle.exact_text.specs.Forms.{Form, byte, number, ◌▸◌, struct, checked, passing, tested, variant, constant, no_form, choose, tagged, counted}
-use Rattle.capture_file.specs.Tags.{unrouted_input, now_op, at_op, after_op, delete_op, active_op, pending_op}
+use Rattle.plain_book.specs.declared.requests.Request.TheVariants.{Activate, Delete, Active}
+use Rattle.plain_book.specs.declared.requests.Request.TheVariants.{Pending}
+use Rattle.exact_text.specs.Forms.{Form, byte, number, ◌▸◌, struct, checked, passing, tested}
+use Rattle.exact_text.specs.Forms.{variant, constant, no_form, choose, tagged, counted}
+use Rattle.capture_file.specs.Tags.{unrouted_input, now_op, at_op, after_op, delete_op, active_op}
+use Rattle.capture_file.specs.Tags.{pending_op}
 
 -- ---- cells
 
@@ -19,7 +23,8 @@ abbrev pub cell_bytes : Cell → ℕ × ℕ
 cell_bytes Unrouted = (unrouted_input, 0)
 cell_bytes (From input channel) = (input, channel)
 
--- the cell of two bytes: with the input 255 the channel is 0
+-- The cell of two bytes. With the input 255 the channel is 0, and with another one there is no
+-- cell.
 abbrev pub cell_of : ℕ × ℕ → Option Cell
 cell_of b = if b.0 == unrouted_input then tested (b.1 == 0) Unrouted else Some (From b.0 b.1)
 
@@ -56,7 +61,8 @@ named p = changes_of p.0 p.1
 
 -- an output, the number of channels, and the channels with their cells, which ascend
 unfoldable pub output_change : Form OutputChangeParts
-output_change = passing (byte ▸ counted change) (λ o. (o.output, o.changes)) (λ p. channels_rise (named p)) named
+output_change = passing (byte ▸ counted change) (λ o. (o.output, o.changes))
+    (λ p. channels_rise (named p)) named
 
 -- the number of outputs, and the outputs with their channels, all of which ascend
 unfoldable pub action : Form (List OutputChangeParts)

@@ -1,5 +1,6 @@
 -- How a history stands in a result. (This project's own.)
-use Rattle.std.specs.Prelude.{All, ℕ, Bool, ◌<◌, ◌^◌, List, [], ◌++◌, length, map, codes, Option, Some, None}
+use Rattle.std.specs.Prelude.{All, ℕ, Bool, ◌<◌, ◌^◌, List, [], ◌++◌, length, map, codes, Option}
+use Rattle.std.specs.Prelude.{Some, None}
 use Rattle.std.specs.List.{flat_map}
 use Rattle.io_caps.specs.Device.{IsDevice}
 use Rattle.io_caps.specs.declared.device.DeviceParts.{DeviceParts}
@@ -15,7 +16,8 @@ use Rattle.plain_book.specs.declared.requests.Request.{Request}
 use Rattle.plain_book.specs.Calls.{journal_call}
 use Rattle.plain_book.specs.History.{stamp, claim_item, reply_item, IsWhole}
 use Rattle.exact_text.specs.Spellings.{record_text}
-use Rattle.exact_text.specs.Forms.{Form, byte, number, many_of, all_left, ◌▸◌, struct, variant, no_form, choose, tagged, in_record}
+use Rattle.exact_text.specs.Forms.{Form, byte, number, many_of, all_left, ◌▸◌, struct, variant}
+use Rattle.exact_text.specs.Forms.{no_form, choose, tagged, in_record}
 use Rattle.capture_file.specs.declared.entries.ResultItem.{ResultItem}
 use Rattle.capture_file.specs.declared.entries.ResultItem.TheVariants.{Claim, Call, Reply as AReply}
 use Rattle.capture_file.specs.Tags.{claim_tag, call_tag, reply_tag, http_form, plain_form}
@@ -33,7 +35,8 @@ claim_made (k, (found, packet)) = claim_item k found packet
 
 -- the claim's number, a flag for each input, and its packet
 unfoldable pub claim : ℕ → Form ClaimItem
-claim inputs = struct (number 8 ▸ many_of inputs flag ▸ all_left) (λ c. (c.k, (c.found, c.packet))) claim_made
+claim inputs = struct (number 8 ▸ many_of inputs flag ▸ all_left)
+    (λ c. (c.k, (c.found, c.packet))) claim_made
 
 -- ---- calls
 
@@ -43,7 +46,8 @@ call_made (at, (client, (id, (tick, request)))) = journal_call at client id tick
 
 -- claims at acceptance, client, id, tick, request
 unfoldable pub call : Form JournalCall
-call = struct (number 8 ▸ byte ▸ number 8 ▸ number 8 ▸ request) (λ c. (c.at, (c.client, (c.id, (c.tick, c.request))))) call_made
+call = struct (number 8 ▸ byte ▸ number 8 ▸ number 8 ▸ request)
+    (λ c. (c.at, (c.client, (c.id, (c.tick, c.request))))) call_made
 
 -- ---- replies
 
@@ -62,7 +66,8 @@ abbrev pub if_http : Said → Option (List ℕ)
 if_http (Http bytes) = Some bytes
 if_http (Plain r) = None
 
--- the form, and what was said: a plain reply on a device with so many channels of each output, or the bytes of an HTTP response
+-- the form, and what was said: a plain reply on a device with so many channels of each output, or
+-- the bytes of an HTTP response
 unfoldable pub said : List ℕ → Form Said
 said widths = tagged form_of (λ form.
     choose form plain_form (variant (plain_reply widths) (λ r. Plain r) if_plain) (
@@ -74,7 +79,8 @@ reply_made (client, (calls, (claims, s))) = reply_item client (stamp calls claim
 
 -- client, calls, claims, what was said
 unfoldable pub reply : List ℕ → Form ReplyItem
-reply widths = struct (byte ▸ number 8 ▸ number 8 ▸ said widths) (λ r. (r.client, (r.stamp.calls, (r.stamp.claims, r.said)))) reply_made
+reply widths = struct (byte ▸ number 8 ▸ number 8 ▸ said widths)
+    (λ r. (r.client, (r.stamp.calls, (r.stamp.claims, r.said)))) reply_made
 
 -- ---- records
 
@@ -131,7 +137,8 @@ pub record FitsReply (d : DeviceParts) (r : ReplyItem) : Type 0 where
   pub short : length ((reply (widths_of d)).text r) < 256 ^ 4
   pub client : r.client < CLIENTS
 
--- a whole history of this device, which is within its limits; each part is what some record of a result of the device is read as
+-- a whole history of this device, which is within its limits; each part is what some record of a
+-- result of the device is read as
 pub record FitsHistory (d : DeviceParts) (h : History) : Type 0 where
   pub device : IsDevice d
   pub whole : IsWhole h

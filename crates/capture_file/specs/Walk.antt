@@ -1,5 +1,7 @@
--- Records one behind the other, up to a last one, each judged by what stands before it. (This project's own.)
-use Rattle.std.specs.Prelude.{◌≡◌, ℕ, ◌+◌, ◌<◌, ◌^◌, List, [], ◌∷◌, ◌++◌, length, Result, Ok, Err, ◌⊎◌}
+-- Records one behind the other, up to a last one, each judged by what stands before it. (This
+-- project's own.)
+use Rattle.std.specs.Prelude.{◌≡◌, ℕ, ◌+◌, ◌<◌, ◌^◌, List, [], ◌∷◌, ◌++◌, length, Result, Ok, Err}
+use Rattle.std.specs.Prelude.{◌⊎◌}
 use Rattle.std.specs.List.{flat_map}
 use Rattle.io_caps.specs.declared.memory.Or.{Or}
 use Rattle.io_caps.specs.declared.memory.Or.TheVariants.{Fault, NoMemory}
@@ -25,17 +27,21 @@ IsRecord r = (r.0 < 256) × (length r.1 < 256 ^ 4)
 abbrev pub text_of : ℕ × List ℕ → List ℕ
 text_of r = record_text r.0 r.1
 
--- how records are judged: by what stands before one, its tag and its body, what it does to that, or its fault
+-- how records are judged: by what stands before one, its tag and its body, what it does to that, or
+-- its fault
 abbrev pub Judging : Type 0 → Type 0 → Type 0 → Type 1
 Judging S E F = S → ℕ → List ℕ → Result (Step S E) F → Type 0
 
 -- records that are taken one after the other lead from this to that
 abbrev pub Leads : {S E F : Type 0} → Judging S E F → S → List (ℕ × List ℕ) → S → Type 0
 Leads judges s [] end = s ≡ end
-Leads {S = S} judges s (r ∷ others) end = IsRecord r × ((next : S) × (judges s r.0 r.1 (Ok (Next next)) × Leads judges next others end))
+Leads {S = S} judges s (r ∷ others) end =
+    IsRecord r × ((next : S) × (judges s r.0 r.1 (Ok (Next next)) × Leads judges next others end))
 
--- a front of the bytes, of whole records that are taken: what it leads to, and what stands behind it
-pub record Front {S E F : Type 0} (judges : Judging S E F) (start : S) (bytes : List ℕ) (end : S) (behind : List ℕ) : Type 0 where
+-- a front of the bytes, of whole records that are taken: what it leads to, and what stands behind
+-- it
+pub record Front {S E F : Type 0} (judges : Judging S E F) (start : S) (bytes : List ℕ) (end : S)
+    (behind : List ℕ) : Type 0 where
   pub records : List (ℕ × List ℕ)
   pub parts : bytes ≡ flat_map text_of records ++ behind
   pub leads : Leads judges start records end
@@ -50,19 +56,22 @@ pub record Stands (bytes : List ℕ) (r : ℕ × List ℕ) (rest : List ℕ) : T
   pub fits : IsRecord r
 
 -- the record that stands there has this fault
-pub record HasFault {S E F : Type 0} (judges : Judging S E F) (s : S) (bytes : List ℕ) (fault : F) : Type 0 where
+pub record HasFault {S E F : Type 0} (judges : Judging S E F) (s : S) (bytes : List ℕ)
+    (fault : F) : Type 0 where
   pub of : ℕ × List ℕ
   pub rest : List ℕ
   pub stands : Stands bytes of rest
   pub judged : judges s of.0 of.1 (Err fault)
 
--- what stands there is faulty in this way: no whole record, or one that has the fault
+-- what stands there is faulty in this way: it is not a whole record, which is the fault `cut`, or
+-- it is one that has the fault
 abbrev pub IsFaulty : {S E F : Type 0} → Judging S E F → F → S → List ℕ → F → Type 0
 IsFaulty judges cut s bytes fault = (IsCut bytes × (fault ≡ cut)) ⊎ HasFault judges s bytes fault
 
--- The first fault of the last bytes of a whole: behind a front of good records, up to this place in the whole, stands what is
--- faulty in this way.
-pub record FaultAt {S E F : Type 0} (judges : Judging S E F) (cut : F) (start : S) (whole : ℕ) (bytes : List ℕ) (at : ℕ) (fault : F) : Type 0 where
+-- The first fault of the last bytes of a whole: behind a front of good records, up to this place in
+-- the whole, stands what is faulty in this way.
+pub record FaultAt {S E F : Type 0} (judges : Judging S E F) (cut : F) (start : S) (whole : ℕ)
+    (bytes : List ℕ) (at : ℕ) (fault : F) : Type 0 where
   pub before : S
   pub behind : List ℕ
   pub front : Front judges start bytes before behind
@@ -70,7 +79,8 @@ pub record FaultAt {S E F : Type 0} (judges : Judging S E F) (cut : F) (start : 
   pub faulty : IsFaulty judges cut before behind fault
 
 -- The end: behind a front of good records stands the last one, up to this place in the whole.
-pub record EndsAt {S E F : Type 0} (judges : Judging S E F) (start : S) (whole : ℕ) (bytes : List ℕ) (end : E) (at : ℕ) : Type 0 where
+pub record EndsAt {S E F : Type 0} (judges : Judging S E F) (start : S) (whole : ℕ) (bytes : List ℕ)
+    (end : E) (at : ℕ) : Type 0 where
   pub before : S
   pub behind : List ℕ
   pub front : Front judges start bytes before behind

@@ -88,7 +88,8 @@ pub fn read_capture<'a>(
     // The fault that is answered is the first one.
     ensures fault { IfErr result (λ e. IfFault e (λ f. FaultIs bytes.now f.at f.kind)) }
     // Where they have a first fault, that one is answered.
-    ensures exact { (at : ℕ) (kind : CaptureKind) → FaultIs bytes.now at kind → IsRefusal result at kind }
+    ensures exact { (at : ℕ) (kind : CaptureKind)
+        → FaultIs bytes.now at kind → IsRefusal result at kind }
 {
     read_first(alloc, bytes)
 }

@@ -2,7 +2,9 @@
 
 ghost use Rattle.std.specs.Prelude.{◌≡◌, Some, IfOk};
 ghost use Rattle.exact_text.specs.Readings.{Gives};
-ghost use Rattle.capture_file.specs.Device.{width, flag, channels, input, numbered, member, routable, output, target, outputs_of, rows_of, ports, device};
+ghost use Rattle.capture_file.specs.Device.{width, flag, channels, input, numbered, member};
+ghost use Rattle.capture_file.specs.Device.{routable, output, target, outputs_of, rows_of, ports};
+ghost use Rattle.capture_file.specs.Device.{device};
 
 use crate::form::CaptureForm;
 use crate::tags::{ALL_ROUTABLE, BITS_16, BITS_24, UNROUTED_MEMBER};

@@ -34,7 +34,8 @@ pub enum CaptureKind {
 }
 
 /// Why bytes are no capture, by the place of the tag of the first record at fault.
-#[derive(Clone, Copy, Debug, PartialEq, Eq)]
+#[derive(Clone, Copy, Debug, PartialEq, Eq, Error)]
+#[error("{kind} at {at}")]
 pub struct CaptureFault {
     pub at: u64,
     pub kind: CaptureKind,

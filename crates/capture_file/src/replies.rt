@@ -5,7 +5,8 @@ ghost use Rattle.std.specs.List.{flat_map};
 ghost use Rattle.exact_text.specs.Spellings.{Grows};
 ghost use Rattle.plain_book.specs.declared.replies.Reply.TheVariants.{Refused};
 ghost use Rattle.capture_file.specs.Requests.{cell};
-ghost use Rattle.capture_file.specs.Replies.{when, shown, last, view, pending, row_fault, reply, HoldsReply, HoldsPending};
+ghost use Rattle.capture_file.specs.Replies.{when, shown, last, view, pending, row_fault, reply};
+ghost use Rattle.capture_file.specs.Replies.{HoldsReply, HoldsPending};
 ghost use Rattle.exact_text.specs.Forms.{counted};
 
 use crate::writing::{push_action, push_cell, push_time, put64};
@@ -13,7 +14,7 @@ use crate::{Activation, ActiveView, PendingItem, Refusal, Reply, When, tags};
 use io_caps::NoMemory;
 use map_entry::{Cell, Row, RowFault};
 
-#[tactic(auto, using(exact_text::proofs::Growth::growth, exact_text::proofs::FormLaws::joined), unfolding(crate::specs::Replies::when))]
+#[tactic(auto, using(crate::proofs::Steps::put), unfolding(crate::specs::Replies::when))]
 fn push_when(out: &mut Vec<u8>, value: When) -> Result<(), NoMemory>
     ensures ok { OnOk result (out.new.items ≡ out.old.items ++ when.text value) }
     ensures grows { Grows out.old.items out.new.items }
@@ -36,7 +37,7 @@ fn push_when(out: &mut Vec<u8>, value: When) -> Result<(), NoMemory>
     }
 }
 
-#[tactic(auto, using(exact_text::proofs::Growth::growth, exact_text::proofs::FormLaws::joined), unfolding(crate::specs::Replies::shown))]
+#[tactic(auto, using(crate::proofs::Steps::put), unfolding(crate::specs::Replies::shown))]
 fn push_shown(out: &mut Vec<u8>, value: &Activation) -> Result<(), NoMemory>
     ensures ok { OnOk result (out.new.items ≡ out.old.items ++ shown.text value.now) }
     ensures grows { Grows out.old.items out.new.items }
@@ -47,7 +48,7 @@ fn push_shown(out: &mut Vec<u8>, value: &Activation) -> Result<(), NoMemory>
     Ok(())
 }
 
-#[tactic(auto, using(exact_text::proofs::Growth::growth, exact_text::proofs::FormLaws::joined), unfolding(crate::specs::Replies::last))]
+#[tactic(auto, using(crate::proofs::Steps::put), unfolding(crate::specs::Replies::last))]
 fn push_last(out: &mut Vec<u8>, value: &Option<Activation>) -> Result<(), NoMemory>
     ensures ok { OnOk result (out.new.items ≡ out.old.items ++ last.text value.now) }
     ensures grows { Grows out.old.items out.new.items }
@@ -78,7 +79,8 @@ fn push_row(out: &mut Vec<u8>, row: &[Cell]) -> Result<(), NoMemory>
 
 #[tactic(auto, using(exact_text::proofs::Growth::growth))]
 fn push_rows(out: &mut Vec<u8>, rows: &[Row]) -> Result<(), NoMemory>
-    ensures ok { OnOk result (out.new.items ≡ out.old.items ++ flat_map (flat_map cell.text) rows.now) }
+    ensures ok { OnOk result (out.new.items
+        ≡ out.old.items ++ flat_map (flat_map cell.text) rows.now) }
     ensures grows { Grows out.old.items out.new.items }
 {
     for row in rows {
@@ -87,7 +89,7 @@ fn push_rows(out: &mut Vec<u8>, rows: &[Row]) -> Result<(), NoMemory>
     Ok(())
 }
 
-#[tactic(auto, using(exact_text::proofs::Growth::growth, exact_text::proofs::FormLaws::joined), unfolding(crate::specs::Replies::view, crate::specs::Replies::rows))]
+#[tactic(auto, using(crate::proofs::Steps::put), unfolding(crate::specs::Replies::view, crate::specs::Replies::rows))]
 fn push_view(out: &mut Vec<u8>, value: &ActiveView) -> Result<(), NoMemory>
     ensures ok { OnOk result (out.new.items ≡ out.old.items ++ (view []).text value.now) }
     ensures grows { Grows out.old.items out.new.items }
@@ -97,7 +99,7 @@ fn push_view(out: &mut Vec<u8>, value: &ActiveView) -> Result<(), NoMemory>
     Ok(())
 }
 
-#[tactic(auto, using(exact_text::proofs::Growth::growth, exact_text::proofs::FormLaws::joined), unfolding(crate::specs::Replies::pending))]
+#[tactic(auto, using(crate::proofs::Steps::put), unfolding(crate::specs::Replies::pending))]
 fn push_pending_item(out: &mut Vec<u8>, value: &PendingItem) -> Result<(), NoMemory>
     requires { pending.Fits value.now }
     ensures ok { OnOk result (out.new.items ≡ out.old.items ++ pending.text value.now) }
@@ -123,7 +125,7 @@ fn push_pending(out: &mut Vec<u8>, items: &[PendingItem]) -> Result<(), NoMemory
     Ok(())
 }
 
-#[tactic(auto, using(exact_text::proofs::Growth::growth), unfolding(crate::specs::Replies::row_fault))]
+#[tactic(auto, using(crate::proofs::Steps::put), unfolding(crate::specs::Replies::row_fault))]
 fn push_row_fault(out: &mut Vec<u8>, value: RowFault) -> Result<(), NoMemory>
     ensures ok { OnOk result (out.new.items ≡ out.old.items ++ row_fault.text value) }
     ensures grows { Grows out.old.items out.new.items }
@@ -140,7 +142,7 @@ fn push_row_fault(out: &mut Vec<u8>, value: RowFault) -> Result<(), NoMemory>
     Ok(())
 }
 
-#[tactic(auto, using(exact_text::proofs::Growth::growth, exact_text::proofs::FormLaws::joined), unfolding(crate::specs::Replies::reply, crate::specs::Replies::refusal))]
+#[tactic(auto, using(crate::proofs::Steps::put), unfolding(crate::specs::Replies::reply, crate::specs::Replies::refusal))]
 pub(crate) fn push_refusal(out: &mut Vec<u8>, value: Refusal) -> Result<(), NoMemory>
     ensures ok { OnOk result (out.new.items ≡ out.old.items ++ (reply []).text (Refused value)) }
     ensures grows { Grows out.old.items out.new.items }
@@ -176,7 +178,7 @@ pub(crate) fn push_refusal(out: &mut Vec<u8>, value: Refusal) -> Result<(), NoMe
 }
 
 /// Writes a plain reply.
-#[tactic(auto, using(exact_text::proofs::Growth::growth, exact_text::proofs::FormLaws::joined), unfolding(crate::specs::Replies::reply))]
+#[tactic(auto, using(crate::proofs::Steps::put), unfolding(crate::specs::Replies::reply))]
 pub(crate) fn push_plain_reply(out: &mut Vec<u8>, value: &Reply) -> Result<(), NoMemory>
     requires { HoldsReply value.now }
     ensures ok { OnOk result (out.new.items ≡ out.old.items ++ (reply []).text value.now) }

@@ -3,7 +3,8 @@
 ghost use Rattle.std.specs.Prelude.{◌≡◌};
 ghost use Rattle.exact_text.specs.Forms.{tested};
 ghost use Rattle.exact_text.specs.Readings.{Gives};
-ghost use Rattle.capture_file.specs.Requests.{cell, change, output_change, action, is_time, time_made, request};
+ghost use Rattle.capture_file.specs.Requests.{cell, change, output_change, action, is_time};
+ghost use Rattle.capture_file.specs.Requests.{time_made, request};
 
 use crate::form::CaptureForm;
 use crate::{Request, When, tags};

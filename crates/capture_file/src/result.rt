@@ -6,8 +6,10 @@ ghost use Rattle.exact_text.specs.Spellings.{Grows};
 ghost use Rattle.capture_file.specs.Device.{flag};
 ghost use Rattle.capture_file.specs.Records.{ShowsAll};
 ghost use Rattle.capture_file.specs.Result.{call, reply, result_text, FitsCall, FitsHistory};
-ghost use Rattle.capture_file.specs.Parts.{call_bytes, reply_bytes, claim_bytes, bytes_at, range_bytes};
-ghost use Rattle.capture_file.specs.Parts.{HoldsSaid, HoldsItem, IsShortClaim, IsLeft, IsHeld};
+ghost use Rattle.capture_file.specs.Parts.{call_bytes, reply_bytes, claim_bytes};
+ghost use Rattle.capture_file.specs.Parts.{between_bytes, bytes_at, range_bytes};
+ghost use Rattle.capture_file.specs.Parts.{HoldsSaid, HoldsItem, IsShortClaim};
+ghost use Rattle.capture_file.specs.Parts.{AreHeld, AreLeft, IsHeld, IsLeft};
 
 use crate::replies::push_plain_reply;
 use crate::runs::split_run;
@@ -143,6 +145,33 @@ fn push_claims(out: &mut Vec<u8>, claims: &[ClaimItem]) -> Result<(), NoMemory>
     Ok(())
 }
 
+/// Calls and replies that are left to be written.
+pub(crate) type LeftBetween<'a> = (&'a [JournalCall], &'a [ReplyItem]);
+
+/// Writes what stands between two claims, at a number of claims: the calls, and then the replies.
+/// What stands at further numbers is held back, and handed out.
+#[tactic(auto, using(exact_text::proofs::Growth::growth))]
+pub(crate) fn push_between<'a>(
+    alloc: Global,
+    out: &mut Vec<u8>,
+    calls: &'a [JournalCall],
+    replies: &'a [ReplyItem],
+    number: u64,
+) -> Result<LeftBetween<'a>, NoMemory>
+    requires { AreLeft number calls.now replies.now }
+    ensures ok { OnOk result (out.new.items
+        ≡ out.old.items ++ between_bytes number calls.now replies.now) }
+    ensures held { IfOk result
+        (λ x. AreHeld (number + 1) calls.now replies.now x.0.now x.1.now) }
+    ensures grows { Grows out.old.items out.new.items }
+{
+    let (now, later_calls) = split_run(calls, number);
+    push_calls(alloc, out, now)?;
+    let (now, later_replies) = split_run(replies, number);
+    push_replies(alloc, out, now)?;
+    Ok((later_calls, later_replies))
+}
+
 /// Calls, replies and claims that are left to be written.
 type Left<'a> = (&'a [JournalCall], &'a [ReplyItem], &'a [ClaimItem]);
 
@@ -158,14 +187,13 @@ fn push_at<'a>(
     number: u64,
 ) -> Result<Left<'a>, NoMemory>
     requires { IsLeft number calls.now replies.now claims.now }
-    ensures ok { OnOk result (out.new.items ≡ out.old.items ++ bytes_at number calls.now replies.now claims.now) }
-    ensures held { IfOk result (λ x. IsHeld (number + 1) calls.now replies.now claims.now x.0.now x.1.now x.2.now) }
+    ensures ok { OnOk result (out.new.items
+        ≡ out.old.items ++ bytes_at number calls.now replies.now claims.now) }
+    ensures held { IfOk result (λ x. IsHeld (number + 1) calls.now replies.now claims.now
+        x.0.now x.1.now x.2.now) }
     ensures grows { Grows out.old.items out.new.items }
 {
-    let (now, later_calls) = split_run(calls, number);
-    push_calls(alloc, out, now)?;
-    let (now, later_replies) = split_run(replies, number);
-    push_replies(alloc, out, now)?;
+    let (later_calls, later_replies) = push_between(alloc, out, calls, replies, number)?;
     let (now, later_claims) = split_run(claims, number);
     push_claims(out, now)?;
     Ok((later_calls, later_replies, later_claims))
@@ -185,8 +213,10 @@ pub(crate) fn push_range<'a>(
 ) -> Result<Left<'a>, NoMemory>
     requires range { from ≤ to }
     requires left { IsLeft from calls.now replies.now claims.now }
-    ensures ok { OnOk result (out.new.items ≡ out.old.items ++ range_bytes from (to - from) calls.now replies.now claims.now) }
-    ensures held { IfOk result (λ x. IsHeld to calls.now replies.now claims.now x.0.now x.1.now x.2.now) }
+    ensures ok { OnOk result (out.new.items
+        ≡ out.old.items ++ range_bytes from (to - from) calls.now replies.now claims.now) }
+    ensures held { IfOk result (λ x. IsHeld to calls.now replies.now claims.now
+        x.0.now x.1.now x.2.now) }
     ensures grows { Grows out.old.items out.new.items }
 {
     let mut left = (calls, replies, claims);
@@ -206,7 +236,8 @@ pub fn write_result(
     out: &mut Vec<u8>,
 ) -> Result<(), NoMemory>
     requires { FitsHistory _device.now history.now }
-    ensures ok { OnOk result (out.new.items ≡ out.old.items ++ result_text _device.now history.now) }
+    ensures ok { OnOk result (out.new.items
+        ≡ out.old.items ++ result_text _device.now history.now) }
     // Nothing of the history is left out.
     ensures shows { ShowsAll history.now }
     ensures grows { Grows out.old.items out.new.items }

@@ -1,11 +1,21 @@
-//! Faults of captures and replies of results, as tables of bytes.
+//! Faults of captures and replies of results, as tables of bytes, and a result by hand.
+
+ghost use Rattle.std.specs.Prelude.{◌≡◌, [], ◌∷◌, IfOk, length};
+ghost use Rattle.io_caps.specs.Device.{IsDevice};
+ghost use Rattle.io_caps.specs.declared.device.DeviceParts.{DeviceParts};
+ghost use Rattle.plain_book.specs.History.{claim_item, reply_item};
+ghost use Rattle.plain_book.specs.declared.history.Said.TheVariants.{Http};
+ghost use Rattle.capture_file.specs.Parts.{AreLeft};
+ghost use Rattle.capture_file.specs.Result.{FitsHistory};
 
 use crate::CaptureKind::{Body, Cut, Device, Magic, Order, Tag, Work};
 use crate::replies::{push_plain_reply, push_refusal};
 use crate::result::reply_body;
 use crate::{
-    Activation, ActiveView, CaptureFault, CaptureKind, ClaimItem, Item, PendingItem, PendingItems,
-    Refusal, Reply, ReplyItem, ResultItem, Said, Stamp, When, read_capture,
+    Activation, ActiveView, CLAIM_HEAD_LEN, CaptureFault, CaptureKind, ClaimItem, ClaimItems,
+    History, Item, Journal, JournalCall, PendingItem, PendingItems, RESULT_MAGIC, Refusal, Reply,
+    ReplyItem, ReplyItems, Request, ResultItem, Said, Stamp, When, end_record, read_capture,
+    write_between, write_claim_front, write_result,
 };
 use io_caps::{Bytes, Flags, NoMemory, Or, TryCopy};
 use map_entry::{Cell, Row, RowFault, Rows};
@@ -432,6 +442,13 @@ fn each_request_read(rt: HostRuntime) -> Result<(), Fail> {
     Ok(())
 }
 
+#[test]
+fn fault_printed(rt: HostRuntime) -> Result<(), Fail> {
+    let fault = CaptureFault { at: 65, kind: Cut };
+    assert!(rt; format!(in rt.alloc(); "{fault}")?.as_str() == "cut at 65");
+    Ok(())
+}
+
 /// The number of whole ticks and the place of a capture with these records.
 fn read(alloc: Global, records: &str) -> Result<(u64, usize), Fail> {
     let mut bytes = hex(alloc, FRONT)?;
@@ -577,5 +594,116 @@ fn active_written(rt: HostRuntime) -> Result<(), Fail> {
     push_plain_reply(&mut out, &Reply::Active(ActiveView { last, rows }))?;
     let digits = "03 01 0000000000000006 01 0000000000000007 00000008 0000000000000009 ff00 0102";
     assert!(rt; out == hex(rt.alloc(), digits)?);
+    Ok(())
+}
+
+/// A claim of a device with one input, whose packet is one byte.
+fn claim(alloc: Global, k: u64, is_found: bool, byte: u8) -> Result<ClaimItem, NoMemory>
+    ensures { IfOk result (λ c. c ≡ claim_item k (is_found ∷ []) (byte ∷ [])) }
+{
+    let mut found = Flags::new(alloc);
+    found.push(is_found)?;
+    let mut packet = Bytes::new(alloc);
+    packet.push(byte)?;
+    Ok(ClaimItem::new(k, found, packet))
+}
+
+/// A response of one byte.
+fn response(alloc: Global, client: u8, stamp: Stamp, byte: u8) -> Result<ReplyItem, NoMemory>
+    ensures { IfOk result (λ r. r ≡ reply_item client stamp (Http (byte ∷ []))) }
+{
+    let mut bytes = Bytes::new(alloc);
+    bytes.push(byte)?;
+    Ok(ReplyItem::new(client, stamp, Said::Http(bytes)))
+}
+
+/// Three claims, and calls and replies in front of the first, between two, and behind the last.
+fn three_claims(alloc: Global) -> Result<History, NoMemory>
+    ensures { (d : DeviceParts) → IsDevice d → length d.inputs ≡ 1 → IfOk result (FitsHistory d) }
+{
+    let mut journal = Journal::new(alloc);
+    journal.push(JournalCall::new(0, 2, 1, 5, Request::Active))?;
+    journal.push(JournalCall::new(0, 3, 2, 6, Request::Pending))?;
+    journal.push(JournalCall::new(2, 2, 3, 7, Request::Active))?;
+    let mut replies = ReplyItems::new(alloc);
+    replies.push(response(
+        alloc,
+        2,
+        Stamp {
+            calls: 1,
+            claims: 0,
+        },
+        33,
+    )?)?;
+    replies.push(response(
+        alloc,
+        3,
+        Stamp {
+            calls: 2,
+            claims: 1,
+        },
+        34,
+    )?)?;
+    replies.push(response(
+        alloc,
+        2,
+        Stamp {
+            calls: 3,
+            claims: 3,
+        },
+        35,
+    )?)?;
+    let mut claims = ClaimItems::new(alloc);
+    claims.push(claim(alloc, 0, true, 17)?)?;
+    claims.push(claim(alloc, 1, false, 18)?)?;
+    claims.push(claim(alloc, 2, true, 19)?)?;
+    Ok(History {
+        claims,
+        journal,
+        replies,
+    })
+}
+
+/// The text of a history, put together of its parts.
+fn by_hand(alloc: Global, history: &History) -> Result<Vec<u8>, Fail>
+    requires { AreLeft 0 history.now.journal history.now.replies }
+{
+    let claims = history.claims.as_slice();
+    let numbers = claims.len() as u64 + 1;
+    let calls = history.journal.as_slice();
+    let between = write_between(alloc, calls, history.replies.as_slice(), numbers)?;
+    let mut text = Vec::new(alloc);
+    text.extend_from_slice(RESULT_MAGIC)?;
+    for (number, records) in between.as_slice().iter().enumerate() {
+        text.extend_from_slice(records.as_slice())?;
+        if number < claims.len() {
+            let claim = &claims[number];
+            if claim.found.len() > 99 || claim.packet.len() > 99 {
+                return Err(Fail::from("a short claim"));
+            }
+            let mut front = vec![in alloc; 0u8; CLAIM_HEAD_LEN + claim.found.len()]?;
+            let found = claim.found.as_slice();
+            write_claim_front(&mut front, claim.k, found, claim.packet.len());
+            text.extend_from_slice(&front)?;
+            text.extend_from_slice(claim.packet.as_slice())?;
+        }
+    }
+    text.extend_from_slice(&end_record())?;
+    Ok(text)
+}
+
+#[test]
+fn result_by_hand(rt: HostRuntime) -> Result<(), Fail> {
+    let mut bytes = hex(rt.alloc(), FRONT)?;
+    add_hex(&mut bytes, "45 00000000")?;
+    let (capture, _) = read_capture(rt.alloc(), &bytes).ok().ok_or("a capture")?;
+    let device = &capture.setup.device;
+    if device.inputs() != 1 {
+        return Err(Fail::from("one input"));
+    }
+    let history = three_claims(rt.alloc())?;
+    let mut text = Vec::new(rt.alloc());
+    write_result(rt.alloc(), device, &history, &mut text)?;
+    assert!(rt; text == by_hand(rt.alloc(), &history)?);
     Ok(())
 }

@@ -46,7 +46,8 @@ pub fn walk<'a, S: Judge<'a, E, F>, E: Drop, F: Drop>(
 ) -> Result<(E, usize), Or<Placed<F>>>
     requires { length bytes.now ≤ whole }
     ensures end { IfOk result (λ x. EndsAt S.judges start whole bytes.now x.0 x.1) }
-    ensures fault { IfErr result (λ e. IfFault e (λ f. FaultAt S.judges cut start whole bytes.now f.at f.fault)) }
+    ensures fault { IfErr result (λ e. IfFault e
+        (λ f. FaultAt S.judges cut start whole bytes.now f.at f.fault)) }
 {
     let mut state = start;
     let mut rest = bytes;

@@ -12,7 +12,7 @@ use io_caps::NoMemory;
 use map_entry::{Action, Cell, Change, OutputChange};
 use tai_time::Tai;
 
-#[tactic(auto, using(exact_text::proofs::Growth::growth), unfolding(exact_text::specs::Forms::number_text))]
+#[tactic(auto, using(crate::proofs::Steps::put), unfolding(exact_text::specs::Forms::number_text))]
 fn put32(out: &mut Vec<u8>, number: u32) -> Result<(), NoMemory>
     ensures ok { OnOk result (out.new.items ≡ out.old.items ++ number_text 4 number) }
     ensures grows { Grows out.old.items out.new.items }
@@ -21,7 +21,7 @@ fn put32(out: &mut Vec<u8>, number: u32) -> Result<(), NoMemory>
     Ok(())
 }
 
-#[tactic(auto, using(exact_text::proofs::Growth::growth), unfolding(exact_text::specs::Forms::number_text))]
+#[tactic(auto, using(crate::proofs::Steps::put), unfolding(exact_text::specs::Forms::number_text))]
 pub(crate) fn put64(out: &mut Vec<u8>, number: u64) -> Result<(), NoMemory>
     ensures ok { OnOk result (out.new.items ≡ out.old.items ++ number_text 8 number) }
     ensures grows { Grows out.old.items out.new.items }
@@ -30,7 +30,7 @@ pub(crate) fn put64(out: &mut Vec<u8>, number: u64) -> Result<(), NoMemory>
     Ok(())
 }
 
-#[tactic(auto, using(exact_text::proofs::Growth::growth), unfolding(crate::specs::Requests::cell))]
+#[tactic(auto, using(crate::proofs::Steps::put), unfolding(crate::specs::Requests::cell))]
 pub(crate) fn push_cell(out: &mut Vec<u8>, value: Cell) -> Result<(), NoMemory>
     ensures ok { OnOk result (out.new.items ≡ out.old.items ++ cell.text value) }
     ensures grows { Grows out.old.items out.new.items }
@@ -44,7 +44,7 @@ pub(crate) fn push_cell(out: &mut Vec<u8>, value: Cell) -> Result<(), NoMemory>
     Ok(())
 }
 
-#[tactic(auto, using(exact_text::proofs::Growth::growth, exact_text::proofs::FormLaws::joined), unfolding(crate::specs::Requests::change))]
+#[tactic(auto, using(crate::proofs::Steps::put), unfolding(crate::specs::Requests::change))]
 fn push_change(out: &mut Vec<u8>, value: &Change) -> Result<(), NoMemory>
     ensures ok { OnOk result (out.new.items ≡ out.old.items ++ change.text value.now) }
     ensures grows { Grows out.old.items out.new.items }
@@ -65,7 +65,7 @@ fn push_changes(out: &mut Vec<u8>, changes: &[Change]) -> Result<(), NoMemory>
     Ok(())
 }
 
-#[tactic(auto, using(exact_text::proofs::Growth::growth, exact_text::proofs::FormLaws::joined), unfolding(crate::specs::Requests::output_change))]
+#[tactic(auto, using(crate::proofs::Steps::put), unfolding(crate::specs::Requests::output_change))]
 fn push_output_change(out: &mut Vec<u8>, value: &OutputChange) -> Result<(), NoMemory>
     requires { output_change.Fits value.now }
     ensures ok { OnOk result (out.new.items ≡ out.old.items ++ output_change.text value.now) }
@@ -78,7 +78,7 @@ fn push_output_change(out: &mut Vec<u8>, value: &OutputChange) -> Result<(), NoM
     Ok(())
 }
 
-#[tactic(auto, using(exact_text::proofs::Growth::growth, exact_text::proofs::FormLaws::joined), unfolding(crate::specs::Requests::action))]
+#[tactic(auto, using(crate::proofs::Steps::put), unfolding(crate::specs::Requests::action))]
 pub(crate) fn push_action(out: &mut Vec<u8>, value: &Action) -> Result<(), NoMemory>
     requires { action.Fits value.now }
     ensures ok { OnOk result (out.new.items ≡ out.old.items ++ action.text value.now) }
@@ -91,7 +91,7 @@ pub(crate) fn push_action(out: &mut Vec<u8>, value: &Action) -> Result<(), NoMem
     Ok(())
 }
 
-#[tactic(auto, using(exact_text::proofs::Growth::growth, exact_text::proofs::FormLaws::joined), unfolding(crate::specs::Requests::time))]
+#[tactic(auto, using(crate::proofs::Steps::put), unfolding(crate::specs::Requests::time))]
 pub(crate) fn push_time(out: &mut Vec<u8>, value: Tai) -> Result<(), NoMemory>
     ensures ok { OnOk result (out.new.items ≡ out.old.items ++ time.text value) }
     ensures grows { Grows out.old.items out.new.items }
@@ -102,7 +102,7 @@ pub(crate) fn push_time(out: &mut Vec<u8>, value: Tai) -> Result<(), NoMemory>
 }
 
 /// Writes a request.
-#[tactic(auto, using(exact_text::proofs::Growth::growth, exact_text::proofs::FormLaws::joined), unfolding(crate::specs::Requests::request))]
+#[tactic(auto, using(crate::proofs::Steps::put), unfolding(crate::specs::Requests::request))]
 pub(crate) fn push_request(out: &mut Vec<u8>, value: &Request) -> Result<(), NoMemory>
     requires { request.Fits value.now }
     ensures ok { OnOk result (out.new.items ≡ out.old.items ++ request.text value.now) }

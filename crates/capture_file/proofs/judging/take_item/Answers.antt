@@ -11,15 +11,31 @@ returns-in-Err-NoReading c =
 
 pub returns-then-not-is_item_there : goal.returns-then-not-is_item_there
 returns-then-not-is_item_there c =
-    let never : IsItemThere (length c.before-2.inside.setup.device.inputs) c.in-Ok.item → ⊥ = λ there. absurd (search (rules, there, c.is_item_there.ensures, c.if-not-is_item_there.true)) in
-    rw (← c.before-2.view_is) (refl, λ item h. item_refused c.before-2.inside.setup c.args.tag c.args.body.now c.in-Ok.item c.in-Ok.ensures never item h)
+    let never : IsItemThere (length c.before-2.inside.setup.device.inputs) c.in-Ok.item → ⊥ =
+    λ there. absurd (search (rules, there, c.is_item_there.ensures, c.if-not-is_item_there.true)) in
+    rw (← c.before-2.view_is) (
+      refl,
+      λ item h. item_refused c.before-2.inside.setup c.args.tag c.args.body.now c.in-Ok.item
+          c.in-Ok.ensures never item h,
+    )
 
 pub invariant_of-result : goal.invariant_of-result
 invariant_of-result c =
-    let there : IsItemThere (length c.before-2.inside.setup.device.inputs) c.in-Ok.item = search (rules, c.is_item_there.ensures, c.if-not-is_item_there.false) in
-    rw c.in_ok-push.ensures.ok (All-push (IsItemThere (length c.before-2.inside.setup.device.inputs)) c.before-2.inside.items c.in-Ok.item c.before-2.invariant there)
+    let there : IsItemThere (length c.before-2.inside.setup.device.inputs) c.in-Ok.item =
+    search (rules, c.is_item_there.ensures, c.if-not-is_item_there.false) in
+    rw c.in_ok-push.ensures.ok
+    (All-push (IsItemThere (length c.before-2.inside.setup.device.inputs)) c.before-2.inside.items
+    c.in-Ok.item c.before-2.invariant there)
 
 pub returns : goal.returns
 returns c =
-    let there : IsItemThere (length c.before-2.inside.setup.device.inputs) c.in-Ok.item = search (rules, c.is_item_there.ensures, c.if-not-is_item_there.false) in
-    rw (← c.before-2.view_is) (c.in-Ok.item, (item_found c.before-2.inside.setup c.args.tag c.args.body.now c.in-Ok.item (λ i. omega (arith, c.type_inv.body i)) c.in-Ok.ensures there, rw c.in_ok-push.ensures.ok refl))
+    let there : IsItemThere (length c.before-2.inside.setup.device.inputs) c.in-Ok.item =
+    search (rules, c.is_item_there.ensures, c.if-not-is_item_there.false) in
+    rw (← c.before-2.view_is) (
+      c.in-Ok.item,
+      (
+        item_found c.before-2.inside.setup c.args.tag c.args.body.now c.in-Ok.item
+            (λ i. omega (arith, c.type_inv.body i)) c.in-Ok.ensures there,
+        rw c.in_ok-push.ensures.ok refl,
+      ),
+    )

@@ -1,14 +1,9 @@
 use Rattle.std.proofs.Common.{eqb}
-use Rattle.capture_file.specs.Parts.{HoldsItem, IsShortClaim}
-use Rattle.capture_file.specs.Result.{FitsCall}
+use Rattle.capture_file.specs.Parts.{IsShortClaim}
 use Rattle.capture_file.proofs.RunLaws.{run_fits}
 use Rattle.capture_file.proofs.result.push_at.Goals as goal
 
-pub push_calls-requires : goal.push_calls-requires
-push_calls-requires c = rw c.split_run.ensures.run (run_fits (λ r. eqb r.at c.args.number) FitsCall c.args.calls.now c.requires.calls_fit)
-
-pub push_replies-requires : goal.push_replies-requires
-push_replies-requires c = rw c.split_run-2.ensures.run (run_fits (λ r. eqb r.stamp.claims c.args.number) HoldsItem c.args.replies.now c.requires.replies_fit)
-
 pub push_claims-requires : goal.push_claims-requires
-push_claims-requires c = rw c.split_run-3.ensures.run (run_fits (λ r. eqb r.k c.args.number) IsShortClaim c.args.claims.now c.requires.claims_fit)
+push_claims-requires c =
+    rw c.split_run.ensures.run
+    (run_fits (λ r. eqb r.k c.args.number) IsShortClaim c.args.claims.now c.requires.claims_fit)

@@ -4,4 +4,5 @@ use Rattle.capture_file.specs.Parts.{call_bytes}
 use Rattle.capture_file.proofs.result.push_calls.Given as goal
 
 abbrev pub invariant-loop-one : goal.invariant-loop-one
-invariant-loop-one l = l.out.items ≡ l.fn.out.items ++ flat_map call_bytes (take l.one-index l.calls)
+invariant-loop-one l =
+    l.out.items ≡ l.fn.out.items ++ flat_map call_bytes (take l.one-index l.calls)

@@ -4,4 +4,5 @@ use Rattle.capture_file.specs.Parts.{claim_bytes}
 use Rattle.capture_file.proofs.result.push_claims.Given as goal
 
 abbrev pub invariant-loop-one : goal.invariant-loop-one
-invariant-loop-one l = l.out.items ≡ l.fn.out.items ++ flat_map claim_bytes (take l.one-index l.claims)
+invariant-loop-one l =
+    l.out.items ≡ l.fn.out.items ++ flat_map claim_bytes (take l.one-index l.claims)
