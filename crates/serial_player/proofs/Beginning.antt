@@ -1,5 +1,7 @@
 -- A legal history keeps ticks that have begun: calls that were accepted later change nothing there.
-use Rattle.std.proofs.Common.{◌≡◌, ℕ, suc, ◌<◌, ◌≤◌, ◌&&◌, Bool, true, false, not, List, [], ◌∷◌, ◌++◌, length, get_or, Option, inl, inr, refl, sym, ap, subst, ◌∙◌, arith}
+use Rattle.std.proofs.Common.{◌≡◌, ℕ, suc, ◌<◌, ◌≤◌, ◌&&◌, Bool, true, false, not, List, [], ◌∷◌}
+use Rattle.std.proofs.Common.{◌++◌, length, get_or, Option, inl, inr, refl, sym, ap, subst, ◌∙◌}
+use Rattle.std.proofs.Common.{arith}
 use Rattle.std.specs.Prelude.{All, filter, nat_lt}
 use Rattle.std.specs.List.{AllByRecursion, AllPairs}
 use Rattle.std.specs.Option.{unwrap_or}
@@ -21,7 +23,8 @@ use Rattle.plain_book.specs.declared.calls.JournalCall.{JournalCall}
 use Rattle.plain_book.specs.declared.history.ClaimItem.{ClaimItem}
 use Rattle.plain_book.specs.declared.history.History.{History}
 use Rattle.interleavings.specs.Legal.{AreClaims, Form, IsClaim, closed_form, free_form}
-use Rattle.serial_player.specs.Legal.{IsByBegin, IsLegalClosed, IsLegalFree, KeepsBegunTicks, calls_by_begin, first_of_tick}
+use Rattle.serial_player.specs.Legal.{IsByBegin, IsLegalClosed, IsLegalFree, KeepsBegunTicks}
+use Rattle.serial_player.specs.Legal.{calls_by_begin, first_of_tick}
 use Rattle.serial_player.specs.Serial.{blocks_of}
 use Rattle.serial_player.specs.Streams.{Turn}
 use Rattle.serial_player.proofs.Running.{selected_stays}
@@ -33,79 +36,123 @@ record Split (m : ℕ) (journal : List JournalCall) : Type 0 where
   parts : journal ≡ filter (λ call. not (nat_lt m call.at)) journal ++ behind
   late : AllByRecursion (λ call. m < call.at) behind
 
-none_before : (m : ℕ) (calls : List JournalCall) → AllByRecursion (λ call. m < call.at) calls → filter (λ call. not (nat_lt m call.at)) calls ≡ []
+none_before : (m : ℕ) (calls : List JournalCall) → AllByRecursion (λ call. m < call.at) calls
+    → filter (λ call. not (nat_lt m call.at)) calls ≡ []
 none_before m [] late = refl
 none_before m (call ∷ calls) late = rw (lt-ltb m call.at late.0) (none_before m calls late.1)
 
-split : (m : ℕ) (journal : List JournalCall) → AllPairs (λ a b. a.at ≤ b.at) journal → Split m journal
+split : (m : ℕ) (journal : List JournalCall) → AllPairs (λ a b. a.at ≤ b.at) journal
+    → Split m journal
 split m [] up = record { behind = []; parts = refl; late = tt }
 split m (call ∷ calls) up = elim (cases_lt m call.at) [
   | inl after ↦
       let all : All (λ c. m < c.at) (call ∷ calls) =
-      All-cons (λ (c : JournalCall). m < c.at) call calls after (λ k d lt. let order = up 0 (suc k) d (omega arith) (omega (arith, lt)) in omega (arith, after, order)) in
+      All-cons (λ (c : JournalCall). m < c.at) call calls after
+      (λ k d lt. let order = up 0 (suc k) d (omega arith) (omega (arith, lt)) in
+      omega (arith, after, order)) in
       let late = recursion_from_All (λ (c : JournalCall). m < c.at) (call ∷ calls) all in
-      record { behind = call ∷ calls; parts = ap (λ (xs : List JournalCall). xs ++ call ∷ calls) (sym (none_before m (call ∷ calls) late)); late = late }
+      record {
+        behind = call ∷ calls;
+        parts = ap (λ (xs : List JournalCall). xs ++ call ∷ calls)
+            (sym (none_before m (call ∷ calls) late));
+        late = late;
+      }
   | inr before ↦
-      let rest = split m calls (λ i j d less lt. up (suc i) (suc j) d (omega (arith, less)) (omega (arith, lt))) in
-      record { behind = rest.behind; parts = rw (le-ltb m call.at before) (ap (λ (xs : List JournalCall). call ∷ xs) rest.parts); late = rest.late }
+      let rest = split m calls
+      (λ i j d less lt. up (suc i) (suc j) d (omega (arith, less)) (omega (arith, lt))) in
+      record {
+        behind = rest.behind;
+        parts = rw (le-ltb m call.at before) (ap (λ (xs : List JournalCall). call ∷ xs) rest.parts);
+        late = rest.late;
+      }
 ]
 
 -- a claim's row is by the calls before its tick began
-row_by_begin : (s : SetupParts) (m : ℕ) (journal : List JournalCall) (k : ℕ) → IsSetup s → IsLegalJournal s m journal
-    → selected (entries_of s journal) (output_of_claim s k) (tick_of_claim s k) ≡ selected (entries_of s (calls_by_begin s journal k)) (output_of_claim s k) (tick_of_claim s k)
+row_by_begin : (s : SetupParts) (m : ℕ) (journal : List JournalCall) (k : ℕ) → IsSetup s
+    → IsLegalJournal s m journal
+    → selected (entries_of s journal) (output_of_claim s k) (tick_of_claim s k)
+    ≡ selected (entries_of s (calls_by_begin s journal k)) (output_of_claim s k) (tick_of_claim s k)
 row_by_begin s m journal k is legal =
     let first = first_of_tick (length s.device.outputs) k in
     let halves = split first journal legal.rises in
-    let whole : IsLegalJournal s m (calls_by_begin s journal k ++ halves.behind) = subst (IsLegalJournal s m) halves.parts legal in
-    ap (λ (j : List JournalCall). selected (entries_of s j) (output_of_claim s k) (tick_of_claim s k)) halves.parts
-    ∙ selected_stays s m (calls_by_begin s journal k) halves.behind k is whole (All-from_recursion (λ (c : JournalCall). first < c.at) halves.behind halves.late)
+    let whole : IsLegalJournal s m (calls_by_begin s journal k ++ halves.behind) =
+    subst (IsLegalJournal s m) halves.parts legal in
+    ap (λ (j : List JournalCall). selected (entries_of s j) (output_of_claim s k)
+    (tick_of_claim s k)) halves.parts
+    ∙ selected_stays s m (calls_by_begin s journal k) halves.behind k is whole
+    (All-from_recursion (λ (c : JournalCall). first < c.at) halves.behind halves.late)
 
 -- ---- claims
 
 -- a form that sets flags of named inputs alone
 abbrev NamesOnly : SetupParts → List JournalCall → Form → Type 0
-NamesOnly s journal Allows = (k : ℕ) (found : List Bool) → Allows k found → (input : ℕ) → flag_of found input ≡ true → names_by s (entries_of s journal) k input ≡ true
+NamesOnly s journal Allows =
+    (k : ℕ) (found : List Bool) → Allows k found → (input : ℕ) → flag_of found input ≡ true
+    → names_by s (entries_of s journal) k input ≡ true
 
-claim_by_begin : (s : SetupParts) (m : ℕ) (journal : List JournalCall) (blocks : Blocks) (Allows : Form) (k : ℕ) (claim : ClaimItem) → IsSetup s → IsLegalJournal s m journal → NamesOnly s journal Allows
+claim_by_begin : (s : SetupParts) (m : ℕ) (journal : List JournalCall) (blocks : Blocks)
+    (Allows : Form) (k : ℕ) (claim : ClaimItem) → IsSetup s → IsLegalJournal s m journal
+    → NamesOnly s journal Allows
     → IsClaim s journal blocks Allows k claim → IsByBegin s blocks journal claim
 claim_by_begin s m journal blocks Allows k claim is legal only claimed =
     let before = calls_by_begin s journal k in
-    let rows : AreRows s.device.rate.frames (claim_rows s (entries_of s journal) k) (claim_rows s (entries_of s before) k) =
-    λ frame lt. ap (λ (row : Option (List Cell)). unwrap_or row []) (row_by_begin s m journal k is legal) in
-    let packet = claimed.packet ∙ packet_by-same s (entries_of s journal) (entries_of s before) blocks blocks claim.found claim.found k rows (λ input named. refl) (λ input named set. refl) in
-    let named : (input : ℕ) → flag_of claim.found input ≡ true → names_by s (entries_of s before) k input ≡ true =
-    λ input set. sym (names_by-same s (entries_of s journal) (entries_of s before) k rows input) ∙ only k claim.found claimed.flags input set in
+    let rows : AreRows s.device.rate.frames (claim_rows s (entries_of s journal) k)
+    (claim_rows s (entries_of s before) k) =
+    λ frame lt. ap (λ (row : Option (List Cell)). unwrap_or row [])
+    (row_by_begin s m journal k is legal) in
+    let packet = claimed.packet
+    ∙ packet_by-same s (entries_of s journal) (entries_of s before) blocks blocks claim.found
+    claim.found k rows (λ input named. refl) (λ input named set. refl) in
+    let named : (input : ℕ) → flag_of claim.found input ≡ true
+    → names_by s (entries_of s before) k input ≡ true =
+    λ input set. sym (names_by-same s (entries_of s journal) (entries_of s before) k rows input)
+    ∙ only k claim.found claimed.flags input set in
     rw claimed.number (record { packet = packet; named = named })
 
-all_by_begin : (s : SetupParts) (m n : ℕ) (journal : List JournalCall) (blocks : Blocks) (Allows : Form) (claims : List ClaimItem) → IsSetup s → IsLegalJournal s m journal → NamesOnly s journal Allows
+all_by_begin : (s : SetupParts) (m n : ℕ) (journal : List JournalCall) (blocks : Blocks)
+    (Allows : Form) (claims : List ClaimItem) → IsSetup s → IsLegalJournal s m journal
+    → NamesOnly s journal Allows
     → AreClaims s journal blocks Allows n claims → All (IsByBegin s blocks journal) claims
 all_by_begin s m n journal blocks Allows claims is legal only all k d lt =
     let claim = get_or claims k d in
-    claim_by_begin s m journal blocks Allows k claim is legal only (all.each k claim (slice_get-get_or claims k d lt))
+    claim_by_begin s m journal blocks Allows k claim is legal only
+    (all.each k claim (slice_get-get_or claims k d lt))
 
 -- ---- the forms
 
 flag_named : (named there flag : Bool) → flag ≡ (named && there) → flag ≡ true → named ≡ true
 flag_named named there flag is set = (and_parts named there (sym is ∙ set)).0
 
-closed_names : (s : SetupParts) (journal : List JournalCall) (blocks : Blocks) → NamesOnly s journal (closed_form s journal blocks)
-closed_names s journal blocks k found are input set = elim (cases_lt input (length s.device.inputs)) [
-  | inl there ↦ flag_named _ _ (flag_of found input) (are.each input there) set
-  | inr past ↦ absurd (false≢true (sym (get_or_past found input false (omega (arith, past, are.long))) ∙ set))
-]
+closed_names : (s : SetupParts) (journal : List JournalCall) (blocks : Blocks)
+    → NamesOnly s journal (closed_form s journal blocks)
+closed_names s journal blocks k found are input set =
+    elim (cases_lt input (length s.device.inputs)) [
+      | inl there ↦ flag_named _ _ (flag_of found input) (are.each input there) set
+      | inr past ↦ absurd (false≢true
+          (sym (get_or_past found input false (omega (arith, past, are.long))) ∙ set))
+    ]
 
-free_names : (s : SetupParts) (journal : List JournalCall) (blocks : Blocks) (seen : Sights) → NamesOnly s journal (free_form s journal blocks seen)
-free_names s journal blocks seen k found are input set = elim (cases_lt input (length s.device.inputs)) [
-  | inl there ↦ ((are.each input there).only set).0
-  | inr past ↦ absurd (false≢true (sym (get_or_past found input false (omega (arith, past, are.long))) ∙ set))
-]
+free_names : (s : SetupParts) (journal : List JournalCall) (blocks : Blocks) (seen : Sights)
+    → NamesOnly s journal (free_form s journal blocks seen)
+free_names s journal blocks seen k found are input set =
+    elim (cases_lt input (length s.device.inputs)) [
+      | inl there ↦ ((are.each input there).only set).0
+      | inr past ↦ absurd (false≢true
+          (sym (get_or_past found input false (omega (arith, past, are.long))) ∙ set))
+    ]
 
 -- THE LAW: a legal history keeps ticks that have begun, in closed form
-pub closed_keeps : (c : CaptureParts) (turns : List Turn) (h : History) → IsSetup c.setup → IsLegalClosed c turns h → KeepsBegunTicks c h
-closed_keeps c turns h is legal = all_by_begin c.setup _ _ h.journal (blocks_of c) (closed_form c.setup h.journal (blocks_of c)) h.claims is legal.journal (closed_names c.setup h.journal (blocks_of c)) legal.claimed
+pub closed_keeps : (c : CaptureParts) (turns : List Turn) (h : History) → IsSetup c.setup
+    → IsLegalClosed c turns h → KeepsBegunTicks c h
+closed_keeps c turns h is legal =
+    all_by_begin c.setup _ _ h.journal (blocks_of c) (closed_form c.setup h.journal (blocks_of c))
+    h.claims is legal.journal (closed_names c.setup h.journal (blocks_of c)) legal.claimed
 
 -- and in free form
-pub free_keeps : (c : CaptureParts) (turns : List Turn) (h : History) → IsSetup c.setup → IsLegalFree c turns h → KeepsBegunTicks c h
+pub free_keeps : (c : CaptureParts) (turns : List Turn) (h : History) → IsSetup c.setup
+    → IsLegalFree c turns h → KeepsBegunTicks c h
 free_keeps c turns h is legal =
     let seen : Sights = λ claim input. false in
-    all_by_begin c.setup _ _ h.journal (blocks_of c) (free_form c.setup h.journal (blocks_of c) seen) h.claims is legal.journal (free_names c.setup h.journal (blocks_of c) seen) legal.claimed
+    all_by_begin c.setup _ _ h.journal (blocks_of c)
+    (free_form c.setup h.journal (blocks_of c) seen) h.claims is legal.journal
+    (free_names c.setup h.journal (blocks_of c) seen) legal.claimed

@@ -1,5 +1,6 @@
 -- A claim fits the fields of a result.
-use Rattle.std.proofs.Common.{◌≡◌, ℕ, ◌^◌, ◌<◌, Bool, true, false, List, [], ◌∷◌, ◌++◌, length, refl, ap, ◌∙◌, arith}
+use Rattle.std.proofs.Common.{◌≡◌, ℕ, ◌^◌, ◌<◌, Bool, true, false, List, [], ◌∷◌, ◌++◌, length}
+use Rattle.std.proofs.Common.{refl, ap, ◌∙◌, arith}
 use Rattle.std.specs.List.{AllByRecursion, flat_map}
 use Rattle.std.proofs.lemmas.List.{length-append}
 use Rattle.std.proofs.lemmas.List.Concat.{flat_map-cons}
@@ -26,10 +27,14 @@ flags_fit (false ∷ found) = ((omega arith, refl), flags_fit found)
 flags_long : (found : List Bool) → length (flat_map flag.text found) ≡ length found
 unfolding flag
 flags_long [] = refl
-flags_long (b ∷ found) = ap length (flat_map-cons flag.text b found) ∙ omega (arith, length-append (flag.text b) (flat_map flag.text found), flags_long found)
+flags_long (b ∷ found) =
+    ap length (flat_map-cons flag.text b found)
+    ∙ omega (arith, length-append (flag.text b) (flat_map flag.text found), flags_long found)
 
 -- with a flag for each input, and a packet as long as its output's
-pub claim_record : (d : DeviceParts) (k output : ℕ) (found : List Bool) (packet : List ℕ) → k < 256 ^ 8 → length found ≡ length d.inputs → length packet ≡ packet_length d output → IsDevice d → FitsClaim d (claim_item k found packet)
+pub claim_record : (d : DeviceParts) (k output : ℕ) (found : List Bool) (packet : List ℕ)
+    → k < 256 ^ 8 → length found ≡ length d.inputs → length packet ≡ packet_length d output
+    → IsDevice d → FitsClaim d (claim_item k found packet)
 unfolding claim
 claim_record d k output found packet low long packet_long is =
     let short = packet_short d output is in
@@ -37,5 +42,15 @@ claim_record d k output found packet low long packet_long is =
     let all = length-append (number_text 8 k) (flat_map flag.text found ++ packet) in
     record {
       fits = (low, ((long, flags_fit found), tt));
-      short = omega (arith, all, rest, number_long 8 k, flags_long found, long, packet_long, short, is.bounds.few_inputs);
+      short = omega (
+        arith,
+        all,
+        rest,
+        number_long 8 k,
+        flags_long found,
+        long,
+        packet_long,
+        short,
+        is.bounds.few_inputs,
+      );
     }

@@ -1,5 +1,7 @@
 -- What the book replies fits the fields of a result.
-use Rattle.std.proofs.Common.{◌≡◌, ℕ, zero, suc, ◌+◌, ◌^◌, ◌<◌, ◌≤◌, Bool, true, false, eqb, List, [], ◌∷◌, length, map, Option, Some, None, inl, inr, refl, ap, subst, ◌∙◌, arith}
+use Rattle.std.proofs.Common.{◌≡◌, ℕ, zero, suc, ◌+◌, ◌^◌, ◌<◌, ◌≤◌, Bool, true, false, eqb, List}
+use Rattle.std.proofs.Common.{[], ◌∷◌, length, map, Option, Some, None, inl, inr, refl, ap, subst}
+use Rattle.std.proofs.Common.{◌∙◌, arith}
 use Rattle.std.specs.Prelude.{IfSome, filter, nat_lt, slice_get, option_map}
 use Rattle.std.specs.List.{AllByRecursion, AllZip, range_with_len}
 use Rattle.std.proofs.lemmas.Bool.{cases_Bool, ltb-true, ne_eqb}
@@ -20,7 +22,9 @@ use Rattle.plain_book.specs.Pending.{later, latest}
 use Rattle.plain_book.specs.Replies.{item_of, shown as shown_call}
 use Rattle.plain_book.specs.declared.calls.JournalCall.{JournalCall}
 use Rattle.plain_book.specs.declared.requests.Request.{Request}
-use Rattle.plain_book.specs.declared.requests.Request.TheVariants.{Activate, Delete, Active as AskActive, Pending as AskPending}
+use Rattle.plain_book.specs.declared.requests.Request.TheVariants.{Activate, Delete}
+use Rattle.plain_book.specs.declared.requests.Request.TheVariants.{Active as AskActive}
+use Rattle.plain_book.specs.declared.requests.Request.TheVariants.{Pending as AskPending}
 use Rattle.plain_book.specs.declared.requests.When.{When}
 use Rattle.plain_book.specs.declared.requests.When.TheVariants.{Now, At, After}
 use Rattle.exact_text.specs.Forms.{counted}
@@ -34,16 +38,19 @@ use Rattle.capture_file.specs.Result.{widths_of}
 abbrev AreParts : When → List OutputChangeParts → Type 0
 AreParts w a = when.Fits w × action.Fits a
 
-pub request_parts : (w : When) (a : List OutputChangeParts) → request.Fits (Activate w a) → AreParts w a
+pub request_parts : (w : When) (a : List OutputChangeParts) → request.Fits (Activate w a)
+    → AreParts w a
 unfolding request when
 request_parts Now a (low, inl f) = ((omega arith, inl (refl, refl)), f.1.0)
 request_parts Now a (low, inr f) = absurd (f.0 refl)
 request_parts (At t) a (low, inl f) = absurd (omega (arith, f.0))
-request_parts (At t) a (low, inr (other, inl f)) = ((omega arith, inr (other, inl (refl, (f.1.0.0, refl)))), f.1.0.1)
+request_parts (At t) a (low, inr (other, inl f)) =
+    ((omega arith, inr (other, inl (refl, (f.1.0.0, refl)))), f.1.0.1)
 request_parts (At t) a (low, inr (other, inr f)) = absurd (f.0 refl)
 request_parts (After t) a (low, inl f) = absurd (omega (arith, f.0))
 request_parts (After t) a (low, inr (other, inl f)) = absurd (omega (arith, f.0))
-request_parts (After t) a (low, inr (other, inr (next, inl f))) = ((omega arith, inr (other, inr (next, inl (refl, (f.1.0.0, refl))))), f.1.0.1)
+request_parts (After t) a (low, inr (other, inr (next, inl f))) =
+    ((omega arith, inr (other, inr (next, inl (refl, (f.1.0.0, refl))))), f.1.0.1)
 request_parts (After t) a (low, inr (other, inr (next, inr f))) = absurd (f.0 refl)
 
 now_fits : when.Fits Now
@@ -76,52 +83,67 @@ shown_fits call is = (is.id, ((asked_parts call.request is.asks).0, is.tick))
 last_fits : (o : Option JournalCall) → IfSome o IsFitCall → last.Fits (option_map shown_call o)
 unfolding last
 last_fits None is = (omega arith, inl (refl, refl))
-last_fits (Some call) is = (omega arith, inr (λ e. omega (arith, e), inl (refl, (shown_fits call is, refl))))
+last_fits (Some call) is =
+    (omega arith, inr (λ e. omega (arith, e), inl (refl, (shown_fits call is, refl))))
 
 item_fits : (call : JournalCall) → IsFitCall call → pending.Fits (item_of call)
 unfolding pending
-item_fits call is = let parts = asked_parts call.request is.asks in (is.id, (parts.0, (is.tick, parts.1)))
+item_fits call is = let parts = asked_parts call.request is.asks in
+    (is.id, (parts.0, (is.tick, parts.1)))
 
 -- ---- what is chosen of calls
 
-filter_keeps : {X : Type 0} (P : X → Type 0) (p : X → Bool) (xs : List X) → AllByRecursion P xs → AllByRecursion P (filter p xs)
+filter_keeps : {X : Type 0} (P : X → Type 0) (p : X → Bool) (xs : List X) → AllByRecursion P xs
+    → AllByRecursion P (filter p xs)
 filter_keeps P p [] all = tt
 filter_keeps P p (x ∷ xs) all = elim (cases_Bool (p x)) [
   | inl hit ↦ rw hit (all.0, filter_keeps P p xs all.1)
   | inr miss ↦ rw miss (filter_keeps P p xs all.1)
 ]
 
-pub filter_less : {X : Type 0} (p q : X → Bool) → ((x : X) → p x ≡ true → q x ≡ true) → (xs : List X) → length (filter p xs) ≤ length (filter q xs)
+pub filter_less : {X : Type 0} (p q : X → Bool) → ((x : X) → p x ≡ true → q x ≡ true)
+    → (xs : List X) → length (filter p xs) ≤ length (filter q xs)
 filter_less p q stronger [] = omega arith
-filter_less p q stronger (x ∷ xs) = let rest = filter_less p q stronger xs in elim (cases_Bool (p x)) [
-  | inl hit ↦ rw (hit, stronger x hit) (omega (arith, rest))
-  | inr miss ↦ elim (cases_Bool (q x)) [
-    | inl more ↦ rw (miss, more) (omega (arith, rest))
-    | inr none ↦ rw (miss, none) rest
-  ]
-]
+filter_less p q stronger (x ∷ xs) = let rest = filter_less p q stronger xs in
+    elim (cases_Bool (p x)) [
+      | inl hit ↦ rw (hit, stronger x hit) (omega (arith, rest))
+      | inr miss ↦ elim (cases_Bool (q x)) [
+        | inl more ↦ rw (miss, more) (omega (arith, rest))
+        | inr none ↦ rw (miss, none) rest
+      ]
+    ]
 
-later_keeps : (P : JournalCall → Type 0) (call : JournalCall) (o : Option JournalCall) → P call → IfSome o P → P (later call o)
+later_keeps : (P : JournalCall → Type 0) (call : JournalCall) (o : Option JournalCall) → P call
+    → IfSome o P → P (later call o)
 later_keeps P call None own rest = own
 later_keeps P call (Some next) own rest = elim (cases_Bool (nat_lt next.tick call.tick)) [
   | inl hit ↦ rw hit own
   | inr miss ↦ rw miss rest
 ]
 
-latest_keeps : (P : JournalCall → Type 0) (xs : List JournalCall) → AllByRecursion P xs → IfSome (latest xs) P
+latest_keeps : (P : JournalCall → Type 0) (xs : List JournalCall) → AllByRecursion P xs
+    → IfSome (latest xs) P
 latest_keeps P [] all = tt
-latest_keeps P (call ∷ calls) all = later_keeps P call (latest calls) all.0 (latest_keeps P calls all.1)
+latest_keeps P (call ∷ calls) all =
+    later_keeps P call (latest calls) all.0 (latest_keeps P calls all.1)
 
 -- the activation that counted last
-pub latest_fits : (p : JournalCall → Bool) (journal : List JournalCall) → AllByRecursion IsFitCall journal → last.Fits (option_map shown_call (latest (filter p journal)))
-latest_fits p journal all = last_fits (latest (filter p journal)) (latest_keeps IsFitCall (filter p journal) (filter_keeps IsFitCall p journal all))
+pub latest_fits : (p : JournalCall → Bool) (journal : List JournalCall)
+    → AllByRecursion IsFitCall journal
+    → last.Fits (option_map shown_call (latest (filter p journal)))
+latest_fits p journal all =
+    last_fits (latest (filter p journal))
+    (latest_keeps IsFitCall (filter p journal) (filter_keeps IsFitCall p journal all))
 
-items_fit : (calls : List JournalCall) → AllByRecursion IsFitCall calls → AllByRecursion pending.Fits (map item_of calls)
+items_fit : (calls : List JournalCall) → AllByRecursion IsFitCall calls
+    → AllByRecursion pending.Fits (map item_of calls)
 items_fit [] all = tt
 items_fit (call ∷ calls) all = (item_fits call all.0, items_fit calls all.1)
 
 -- so many pending activations
-pub pending_fits : (p : JournalCall → Bool) (journal : List JournalCall) → AllByRecursion IsFitCall journal → length (filter p journal) < 256 → (counted pending).Fits (map item_of (filter p journal))
+pub pending_fits : (p : JournalCall → Bool) (journal : List JournalCall)
+    → AllByRecursion IsFitCall journal → length (filter p journal) < 256
+    → (counted pending).Fits (map item_of (filter p journal))
 pending_fits p journal all few = (
   omega (arith, few, length-map (filter p journal) item_of),
   (refl, items_fit (filter p journal) (filter_keeps IsFitCall p journal all)),
@@ -129,36 +151,49 @@ pending_fits p journal all few = (
 
 -- ---- rows
 
-channel_low : (inputs : List Input) (input channel : ℕ) → AllByRecursion (λ i. AreChannels i.labels) inputs → channel < channels_of inputs input → channel < 256
+channel_low : (inputs : List Input) (input channel : ℕ)
+    → AllByRecursion (λ i. AreChannels i.labels) inputs → channel < channels_of inputs input
+    → channel < 256
 channel_low [] input channel all there = absurd (omega (arith, there))
 channel_low (i ∷ inputs) zero channel all there = omega (arith, there, all.0.1)
 channel_low (i ∷ inputs) (suc k) channel all there = channel_low inputs k channel all.1 there
 
-input_low : (inputs : List Input) (input channel : ℕ) → channel < channels_of inputs input → input < length inputs
+input_low : (inputs : List Input) (input channel : ℕ) → channel < channels_of inputs input
+    → input < length inputs
 input_low [] input channel there = absurd (omega (arith, there))
 input_low (i ∷ inputs) zero channel there = omega arith
-input_low (i ∷ inputs) (suc k) channel there = let rest = input_low inputs k channel there in omega (arith, rest)
+input_low (i ∷ inputs) (suc k) channel there = let rest = input_low inputs k channel there in
+    omega (arith, rest)
 
 cell_fits : (d : DeviceParts) (c : Cell) → IsDevice d → IsChannelThere d.inputs c → cell.Fits c
 unfolding cell
 cell_fits d Unrouted is there = ((omega arith, omega arith), refl)
 cell_fits d (From input channel) is there =
-    let within : channel < channels_of d.inputs input = ltb-true channel (channels_of d.inputs input) there in
-    let low = channel_low d.inputs input channel (recursion_from_All (λ (i : Input). AreChannels i.labels) d.inputs is.streams.inputs) within in
-    let few : input < 16 = omega (arith, input_low d.inputs input channel within, is.bounds.few_inputs) in
+    let within : channel < channels_of d.inputs input =
+    ltb-true channel (channels_of d.inputs input) there in
+    let low = channel_low d.inputs input channel
+    (recursion_from_All (λ (i : Input). AreChannels i.labels) d.inputs is.streams.inputs) within in
+    let few : input < 16 =
+    omega (arith, input_low d.inputs input channel within, is.bounds.few_inputs) in
     let other : eqb input 255 ≡ false = ne_eqb input 255 (λ e. omega (arith, e, few)) in
     ((omega (arith, few), low), rw other refl)
 
-cells_fit : (d : DeviceParts) (row : List Cell) → IsDevice d → AllByRecursion (IsChannelThere d.inputs) row → AllByRecursion cell.Fits row
+cells_fit : (d : DeviceParts) (row : List Cell) → IsDevice d
+    → AllByRecursion (IsChannelThere d.inputs) row → AllByRecursion cell.Fits row
 cells_fit d [] is all = tt
 cells_fit d (c ∷ row) is all = (cell_fits d c is all.0, cells_fit d row is all.1)
 
-zip_rows : (outputs : List Output) (f : ℕ → List Cell) (a : ℕ) → ((i : ℕ) (o : Output) → slice_get outputs i ≡ Some o → FitsWidth (length o.labels) (f (a + i)))
-    → AllZip FitsWidth (map (λ o. length o.labels) outputs) (map f (range_with_len a (length outputs)))
+zip_rows : (outputs : List Output) (f : ℕ → List Cell) (a : ℕ)
+    → ((i : ℕ) (o : Output) → slice_get outputs i ≡ Some o
+    → FitsWidth (length o.labels) (f (a + i)))
+    → AllZip FitsWidth (map (λ o. length o.labels) outputs)
+    (map f (range_with_len a (length outputs)))
 zip_rows [] f a each = tt
 zip_rows (o ∷ outputs) f a each = (
   subst (λ (k : ℕ). FitsWidth (length o.labels) (f k)) (omega arith) (each 0 o refl),
-  zip_rows outputs f (a + 1) (λ i p at. subst (λ (k : ℕ). FitsWidth (length p.labels) (f k)) (omega arith) (each (suc i) p at)),
+  zip_rows outputs f (a + 1)
+      (λ i p at. subst (λ (k : ℕ). FitsWidth (length p.labels) (f k)) (omega arith)
+      (each (suc i) p at)),
 )
 
 within : {X : Type 0} (xs : List X) (k : ℕ) (x : X) → slice_get xs k ≡ Some x → k < length xs
@@ -167,9 +202,17 @@ within (y ∷ ys) zero x e = omega arith
 within (y ∷ ys) (suc k) x e = let w = within ys k x e in omega (arith, w)
 
 -- each output's row
-pub rows_fit : (d : DeviceParts) (f : ℕ → List Cell) → IsDevice d → ((output : ℕ) → output < length d.outputs → IsRowOf d output (f output)) → (rows (widths_of d)).Fits (map f (range_with_len 0 (length d.outputs)))
+pub rows_fit : (d : DeviceParts) (f : ℕ → List Cell) → IsDevice d
+    → ((output : ℕ) → output < length d.outputs → IsRowOf d output (f output))
+    → (rows (widths_of d)).Fits (map f (range_with_len 0 (length d.outputs)))
 unfolding rows
 rows_fit d f is each = zip_rows d.outputs f 0 (λ i o at.
-    let row : IsRowOf d (0 + i) (f (0 + i)) = each (0 + i) (omega (arith, within d.outputs i o at)) in
-    let here : slice_get d.outputs (0 + i) ≡ Some o = ap (slice_get d.outputs) (omega arith) ∙ at in
-    (row.long ∙ rw here refl, cells_fit d (f (0 + i)) is (recursion_from_All (IsChannelThere d.inputs) (f (0 + i)) (passed_there d (0 + i) (f (0 + i)) row.passes))))
+    let row : IsRowOf d (0 + i) (f (0 + i)) =
+    each (0 + i) (omega (arith, within d.outputs i o at)) in
+    let here : slice_get d.outputs (0 + i) ≡ Some o =
+    ap (slice_get d.outputs) (omega arith) ∙ at in (
+      row.long ∙ rw here refl,
+      cells_fit d (f (0 + i)) is
+          (recursion_from_All (IsChannelThere d.inputs) (f (0 + i))
+          (passed_there d (0 + i) (f (0 + i)) row.passes)),
+    ))

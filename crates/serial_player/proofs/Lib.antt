@@ -15,5 +15,8 @@ pub mod Fitting
 pub mod Refusals
 pub mod HttpFits
 pub mod ClaimRecords
+pub mod PacketLengths
 pub mod Wholes
 pub mod History
+pub mod Sends
+pub mod ResultTexts

@@ -1,5 +1,7 @@
 -- An ask that was answered is a step of what was played.
-use Rattle.std.proofs.Common.{◌≡◌, ℕ, ◌+◌, ◌^◌, ◌<◌, Bool, true, false, eqb, cond, List, [], ◌∷◌, ◌++◌, length, Option, Some, None, inl, inr, ◌⊎◌, refl, sym, ap, subst, ◌∙◌, arith}
+use Rattle.std.proofs.Common.{◌≡◌, ℕ, ◌+◌, ◌^◌, ◌<◌, Bool, true, false, eqb, cond, List, [], ◌∷◌}
+use Rattle.std.proofs.Common.{◌++◌, length, Option, Some, None, inl, inr, ◌⊎◌, refl, sym, ap, subst}
+use Rattle.std.proofs.Common.{◌∙◌, arith}
 use Rattle.std.specs.Prelude.{slice_index_or, slice_set}
 use Rattle.std.specs.List.{AllByRecursion}
 use Rattle.std.specs.Option.{option_to_list}
@@ -40,12 +42,16 @@ use Rattle.serial_player.proofs.Running.{asked_run, told_run}
 use Rattle.serial_player.proofs.Told.{floor_next, floor_same}
 
 -- one reply more
-told_one : (old new : List ReplyItem) (client : ℕ) (place : Stamp) (said : Said) → new ≡ old ++ reply_item client place said ∷ [] → place.calls < 256 ^ 8 → IsShort said → AllByRecursion IsHeld old → AllByRecursion IsHeld new
-told_one old new client place said told few short held = rw told (all_append IsHeld old (reply_item client place said ∷ []) held ((few, short), tt))
+told_one : (old new : List ReplyItem) (client : ℕ) (place : Stamp) (said : Said)
+    → new ≡ old ++ reply_item client place said ∷ [] → place.calls < 256 ^ 8 → IsShort said
+    → AllByRecursion IsHeld old → AllByRecursion IsHeld new
+told_one old new client place said told few short held =
+    rw told (all_append IsHeld old (reply_item client place said ∷ []) held ((few, short), tt))
 
 -- ---- where the book was asked
 
--- the book was asked with the request of an ask; the client is told what is said for its reply, and goes on behind all calls
+-- the book was asked with the request of an ask; the client is told what is said for its reply, and
+-- goes on behind all calls
 pub record IsByBook (client : ℕ) (ask : ClientAsk) (old new : Run) : Type 0 where
   pub request : Request
   pub reply : Reply
@@ -57,52 +63,81 @@ pub record IsByBook (client : ℕ) (ask : ClientAsk) (old new : Run) : Type 0 wh
   pub at : place.claims ≡ old.desk.claims
   pub setup : new.desk.setup ≡ old.desk.setup
   pub same : new.desk.claims ≡ old.desk.claims
-  pub claims : new.claims ≡ old.claims
+  pub rows : new.rows ≡ old.rows
   pub told : new.replies ≡ old.replies ++ reply_item client place said ∷ []
   pub few : length new.desk.journal < 256 ^ 8
   pub short : IsShort said
-  pub floors : new.clients.floors.items ≡ slice_set old.clients.floors.items client (stamp (length new.desk.journal) new.desk.claims)
+  pub floors : new.clients.floors.items ≡ slice_set old.clients.floors.items client
+      (stamp (length new.desk.journal) new.desk.claims)
   pub streams : new.clients.streams ≡ old.clients.streams
 
-book_journal : (s : SetupParts) (before after : List JournalCall) (client : ℕ) (request : Request) (reply : Reply) (place : Stamp) (claims : ℕ) → IsAsked s before after client request reply place → place.claims ≡ claims
-    → after ≡ before ++ option_to_list (call_of s before client claims request (reply_of s before claims request))
+book_journal : (s : SetupParts) (before after : List JournalCall) (client : ℕ) (request : Request)
+    (reply : Reply) (place : Stamp) (claims : ℕ) → IsAsked s before after client request reply place
+    → place.claims ≡ claims
+    → after ≡ before ++ option_to_list
+    (call_of s before client claims request (reply_of s before claims request))
 book_journal s before after client request reply place claims asked at =
     asked.journal
-    ∙ ap (λ (r : Reply). before ++ option_to_list (call_of s before client place.claims request r)) asked.reply_is
-    ∙ ap (λ (c : ℕ). before ++ option_to_list (call_of s before client c request (reply_of s before c request))) at
+    ∙ ap (λ (r : Reply). before ++ option_to_list (call_of s before client place.claims request r))
+    asked.reply_is
+    ∙ ap (λ (c : ℕ). before
+    ++ option_to_list (call_of s before client c request (reply_of s before c request))) at
 
-by_accepted : (calls claims : ℕ) (b : Bool) → stamp (calls + cond b 1 0) claims ≡ next_floor (stamp calls claims) b
+by_accepted : (calls claims : ℕ) (b : Bool)
+    → stamp (calls + cond b 1 0) claims ≡ next_floor (stamp calls claims) b
 by_accepted calls claims true = refl
 by_accepted calls claims false = ap (λ (n : ℕ). stamp n claims) (omega arith)
 
 -- the place behind the calls so far is the one from which the client goes on
-floor_is : (s : SetupParts) (p : Played) (client : ℕ) (request : Request) (journal : List JournalCall) (claims : ℕ) → journal ≡ journal_after s p.journal (answer_to s p client request) → claims ≡ p.claims
-    → stamp (length journal) claims ≡ next_floor (answer_to s p client request).stamp (accepts (answer_to s p client request).reply)
+floor_is : (s : SetupParts) (p : Played) (client : ℕ) (request : Request)
+    (journal : List JournalCall) (claims : ℕ)
+    → journal ≡ journal_after s p.journal (answer_to s p client request) → claims ≡ p.claims
+    → stamp (length journal) claims ≡ next_floor (answer_to s p client request).stamp
+    (accepts (answer_to s p client request).reply)
 floor_is s p client request journal claims calls same =
     let g = answer_to s p client request in
-    let given : IsGiven s p.journal 0 g = record { calls = refl; claims = omega arith; reply_is = refl } in
-    let long : length journal ≡ length p.journal + cond (accepts g.reply) 1 0 = ap length calls ∙ after_length s p.journal 0 g given in
-    ap (λ (n : ℕ). stamp n claims) long ∙ ap (λ (c : ℕ). stamp (length p.journal + cond (accepts g.reply) 1 0) c) same ∙ by_accepted (length p.journal) p.claims (accepts g.reply)
+    let given : IsGiven s p.journal 0 g =
+    record { calls = refl; claims = omega arith; reply_is = refl } in
+    let long : length journal ≡ length p.journal + cond (accepts g.reply) 1 0 =
+    ap length calls ∙ after_length s p.journal 0 g given in
+    ap (λ (n : ℕ). stamp n claims) long
+    ∙ ap (λ (c : ℕ). stamp (length p.journal + cond (accepts g.reply) 1 0) c) same
+    ∙ by_accepted (length p.journal) p.claims (accepts g.reply)
 
-set_floor : (old new : Clients) (client : ℕ) (place : Stamp) → new.floors.items ≡ slice_set old.floors.items client place → client < length old.floors.items → floor_at new client ≡ place
-set_floor old new client place is lt = ap (λ (xs : List Stamp). slice_index_or xs client first_floor) is ∙ get_or-set_at old.floors.items client client place first_floor refl lt
+set_floor : (old new : Clients) (client : ℕ) (place : Stamp)
+    → new.floors.items ≡ slice_set old.floors.items client place → client < length old.floors.items
+    → floor_at new client ≡ place
+set_floor old new client place is lt =
+    ap (λ (xs : List Stamp). slice_index_or xs client first_floor) is
+    ∙ get_or-set_at old.floors.items client client place first_floor refl lt
 
-kept_floor : (old new : Clients) (client other : ℕ) (place : Stamp) → new.floors.items ≡ slice_set old.floors.items client place → eqb client other ≡ false → floor_at new other ≡ floor_at old other
-kept_floor old new client other place is apart = ap (λ (xs : List Stamp). slice_index_or xs other first_floor) is ∙ get_or-set_other old.floors.items client other place first_floor (λ e. false≢true (sym apart ∙ eq-eqb client other (sym e)))
+kept_floor : (old new : Clients) (client other : ℕ) (place : Stamp)
+    → new.floors.items ≡ slice_set old.floors.items client place → eqb client other ≡ false
+    → floor_at new other ≡ floor_at old other
+kept_floor old new client other place is apart =
+    ap (λ (xs : List Stamp). slice_index_or xs other first_floor) is
+    ∙ get_or-set_other old.floors.items client other place first_floor
+    (λ e. false≢true (sym apart ∙ eq-eqb client other (sym e)))
 
-book_played : (client : ℕ) (ask : ClientAsk) (old new : Run) (p : Played) → client < CLIENTS → AreAll old.clients → IsByBook client ask old new → HasPlayed p old
+book_played : (client : ℕ) (ask : ClientAsk) (old new : Run) (p : Played) → client < CLIENTS
+    → AreAll old.clients → IsByBook client ask old new → HasPlayed p old
     → HasPlayed (play_step old.desk.setup p (Asks client ask)) new
 book_played client ask old new p lt all is has =
     let s = old.desk.setup in
     let says = says_by s.device ask in
     let g = answer_to s p client is.request in
     let place : is.place ≡ g.stamp =
-    ap (λ (n : ℕ). stamp n is.place.claims) (is.asked.calls ∙ ap length has.journal) ∙ ap (stamp (length p.journal)) (is.at ∙ has.claims) in
+    ap (λ (n : ℕ). stamp n is.place.claims) (is.asked.calls ∙ ap length has.journal)
+    ∙ ap (stamp (length p.journal)) (is.at ∙ has.claims) in
     let reply : is.reply ≡ g.reply =
-    is.asked.reply_is ∙ ap (λ (j : List JournalCall). reply_of s j is.place.claims is.request) has.journal ∙ ap (λ (c : ℕ). reply_of s p.journal c is.request) (is.at ∙ has.claims) in
+    is.asked.reply_is ∙ ap (λ (j : List JournalCall). reply_of s j is.place.claims is.request)
+    has.journal ∙ ap (λ (c : ℕ). reply_of s p.journal c is.request) (is.at ∙ has.claims) in
     let journal : new.desk.journal ≡ journal_after s p.journal g =
-    book_journal s old.desk.journal new.desk.journal client is.request is.reply is.place p.claims is.asked (is.at ∙ has.claims)
-    ∙ ap (λ (j : List JournalCall). j ++ option_to_list (call_of s j client p.claims is.request (reply_of s j p.claims is.request))) has.journal in
+    book_journal s old.desk.journal new.desk.journal client is.request is.reply is.place p.claims
+    is.asked (is.at ∙ has.claims)
+    ∙ ap (λ (j : List JournalCall). j
+    ++ option_to_list (call_of s j client p.claims is.request (reply_of s j p.claims is.request)))
+    has.journal in
     let claims : new.desk.claims ≡ p.claims = is.same ∙ has.claims in
     let told : new.replies ≡ p.told ++ told_at client g.stamp (says (Some g.reply)) =
     is.told ∙ ap (λ (xs : List ReplyItem). xs ++ reply_item client is.place is.said ∷ []) has.told
@@ -118,67 +153,107 @@ book_played client ask old new p lt all is has =
         | inl own ↦
             let same : client ≡ other = eqb-true client other own in
             subst (λ (c : ℕ). floor_at new.clients c ≡ floor_of c behind.given) same
-            (set_floor old.clients new.clients client (stamp (length new.desk.journal) new.desk.claims) is.floors (omega (arith, lt, all.1))
-            ∙ floor_is s p client is.request new.desk.journal new.desk.claims journal claims ∙ sym (floor_next s p client says is.request))
+            (set_floor old.clients new.clients client
+            (stamp (length new.desk.journal) new.desk.claims) is.floors (omega (arith, lt, all.1))
+            ∙ floor_is s p client is.request new.desk.journal new.desk.claims journal claims
+            ∙ sym (floor_next s p client says is.request))
         | inr apart ↦
-            kept_floor old.clients new.clients client other (stamp (length new.desk.journal) new.desk.claims) is.floors apart ∙ has.floors other there ∙ sym (floor_same s p client other says (Some is.request) apart)
+            kept_floor old.clients new.clients client other
+            (stamp (length new.desk.journal) new.desk.claims) is.floors apart
+            ∙ has.floors other there
+            ∙ sym (floor_same s p client other says (Some is.request) apart)
       ];
     } in
     subst (λ (o : Option Request). HasPlayed (told_by s p client says o) new) (sym is.asks) done
 
-all_kept : (old new : Clients) (client : ℕ) (place : Stamp) → new.floors.items ≡ slice_set old.floors.items client place → new.streams ≡ old.streams → AreAll old → AreAll new
-all_kept old new client place floors streams all = (ap (λ (v : _). length v.items) streams ∙ all.0, ap length floors ∙ length-set old.floors.items client place ∙ all.1)
+all_kept : (old new : Clients) (client : ℕ) (place : Stamp)
+    → new.floors.items ≡ slice_set old.floors.items client place → new.streams ≡ old.streams
+    → AreAll old → AreAll new
+all_kept old new client place floors streams all = (
+  ap (λ (v : _). length v.items) streams ∙ all.0,
+  ap length floors
+      ∙ length-set old.floors.items client place ∙ all.1,
+)
 
-pub by_book : (client : ℕ) (ask : ClientAsk) (old new : Run) → client < CLIENTS → AreAll old.clients → IsByBook client ask old new → HasAsked client ask old new
+pub by_book : (client : ℕ) (ask : ClientAsk) (old new : Run) → client < CLIENTS → AreAll old.clients
+    → IsByBook client ask old new → HasAsked client ask old new
 by_book client ask old new lt all is = record {
-  run = λ s table run.
-      let calls = book_journal old.desk.setup old.desk.journal new.desk.journal client is.request is.reply is.place old.desk.claims is.asked is.at in
-      asked_run s table old new client is.request run is.setup is.same
-      (calls ∙ ap (λ (x : SetupParts). old.desk.journal ++ option_to_list (call_of x old.desk.journal client old.desk.claims is.request (reply_of x old.desk.journal old.desk.claims is.request))) run.setup)
-      is.claims (told_one old.replies new.replies client is.place is.said is.told (omega (arith, is.few, is.asked.calls, ap length is.asked.journal, length-append old.desk.journal (option_to_list (call_of old.desk.setup old.desk.journal client is.place.claims is.request is.reply)))) is.short run.held)
-      (all_kept old.clients new.clients client (stamp (length new.desk.journal) new.desk.claims) is.floors is.streams all);
-  does = λ s p checked setup has. subst (λ (x : SetupParts). HasPlayed (play_step x p (Asks client ask)) new) setup (book_played client ask old new p lt all is has);
+  run = λ s run.
+      let calls = book_journal old.desk.setup old.desk.journal new.desk.journal client is.request
+      is.reply is.place old.desk.claims is.asked is.at in
+      asked_run s old new client is.request run is.setup is.same
+      (calls ∙ ap (λ (x : SetupParts). old.desk.journal ++ option_to_list
+      (call_of x old.desk.journal client old.desk.claims is.request
+      (reply_of x old.desk.journal old.desk.claims is.request))) run.setup)
+      is.rows (told_one old.replies new.replies client is.place is.said is.told
+      (omega (
+        arith,
+        is.few,
+        is.asked.calls,
+        ap length is.asked.journal,
+        length-append old.desk.journal
+            (option_to_list (call_of old.desk.setup old.desk.journal client is.place.claims
+            is.request
+            is.reply)),
+      )) is.short run.held)
+      (all_kept old.clients new.clients client (stamp (length new.desk.journal) new.desk.claims)
+      is.floors is.streams all);
+  does = λ s p checked setup has. subst
+      (λ (x : SetupParts). HasPlayed (play_step x p (Asks client ask)) new) setup
+      (book_played client ask old new p lt all is has);
   setup = is.setup;
   claims = is.same;
-  all = all_kept old.clients new.clients client (stamp (length new.desk.journal) new.desk.claims) is.floors is.streams;
+  all = all_kept old.clients new.clients client (stamp (length new.desk.journal) new.desk.claims)
+      is.floors is.streams;
   streams = is.streams;
 }
 
 -- ---- where it wasn't
 
--- the ask has no request for the book: the client is told what is said without it, at the place from which it goes on
+-- the ask has no request for the book: the client is told what is said without it, at the place
+-- from which it goes on
 pub record IsWithout (client : ℕ) (ask : ClientAsk) (old new : Run) : Type 0 where
   pub said : Said
   pub asks : asked_by old.desk.setup.device ask ≡ None
   pub says : says_by old.desk.setup.device ask None ≡ Some said
   pub desk : new.desk ≡ old.desk
-  pub claims : new.claims ≡ old.claims
+  pub rows : new.rows ≡ old.rows
   pub told : new.replies ≡ old.replies ++ reply_item client (floor_at old.clients client) said ∷ []
   pub few : (floor_at old.clients client).calls < 256 ^ 8
   pub short : IsShort said
   pub clients : new.clients ≡ old.clients
 
-without_played : (client : ℕ) (ask : ClientAsk) (old new : Run) (p : Played) → client < CLIENTS → IsWithout client ask old new → HasPlayed p old → HasPlayed (play_step old.desk.setup p (Asks client ask)) new
+without_played : (client : ℕ) (ask : ClientAsk) (old new : Run) (p : Played) → client < CLIENTS
+    → IsWithout client ask old new → HasPlayed p old
+    → HasPlayed (play_step old.desk.setup p (Asks client ask)) new
 without_played client ask old new p lt is has =
     let s = old.desk.setup in
     let says = says_by s.device ask in
     let told : new.replies ≡ p.told ++ told_at client (floor_of client p.given) (says None) =
-    is.told ∙ ap (λ (xs : List ReplyItem). xs ++ reply_item client (floor_at old.clients client) is.said ∷ []) has.told
+    is.told ∙ ap (λ (xs : List ReplyItem). xs ++ reply_item client
+    (floor_at old.clients client) is.said ∷ []) has.told
     ∙ ap (λ (place : Stamp). p.told ++ reply_item client place is.said ∷ []) (has.floors client lt)
-    ∙ ap (λ (o : Option Said). p.told ++ told_at client (floor_of client p.given) o) (sym is.says) in
+    ∙ ap (λ (o : Option Said). p.told ++ told_at client (floor_of client p.given) o)
+    (sym is.says) in
     let done : HasPlayed (told_by s p client says None) new = record {
       claims = ap (λ (d : DeskParts). d.claims) is.desk ∙ has.claims;
       journal = ap (λ (d : DeskParts). d.journal) is.desk ∙ has.journal;
       told = told;
-      floors = λ other there. ap (λ (c : Clients). floor_at c other) is.clients ∙ has.floors other there;
+      floors = λ other there. ap (λ (c : Clients). floor_at c other) is.clients
+          ∙ has.floors other there;
     } in
     subst (λ (o : Option Request). HasPlayed (told_by s p client says o) new) (sym is.asks) done
 
-pub without_book : (client : ℕ) (ask : ClientAsk) (old new : Run) → client < CLIENTS → AreAll old.clients → IsWithout client ask old new → HasAsked client ask old new
+pub without_book : (client : ℕ) (ask : ClientAsk) (old new : Run) → client < CLIENTS
+    → AreAll old.clients → IsWithout client ask old new → HasAsked client ask old new
 without_book client ask old new lt all is = record {
-  run = λ s table run.
-      told_run s table old new run is.desk is.claims (told_one old.replies new.replies client (floor_at old.clients client) is.said is.told is.few is.short run.held) (subst AreAll (sym is.clients) all);
-  does = λ s p checked setup has. subst (λ (x : SetupParts). HasPlayed (play_step x p (Asks client ask)) new) setup (without_played client ask old new p lt is has);
+  run = λ s run.
+      told_run s old new run is.desk is.rows
+      (told_one old.replies new.replies client (floor_at old.clients client) is.said is.told is.few
+      is.short run.held) (subst AreAll (sym is.clients) all);
+  does = λ s p checked setup has. subst
+      (λ (x : SetupParts). HasPlayed (play_step x p (Asks client ask)) new) setup
+      (without_played client ask old new p lt is has);
   setup = ap (λ (d : DeskParts). d.setup) is.desk;
   claims = ap (λ (d : DeskParts). d.claims) is.desk;
   all = λ before. subst AreAll (sym is.clients) before;
@@ -188,62 +263,85 @@ without_book client ask old new lt all is = record {
 -- ---- what clients ask
 
 -- a plain request
-pub plain_asked : (client : ℕ) (request : Request) (reply : Reply) (place : Stamp) (old new : Run) → client < CLIENTS → AreAll old.clients
-    → IsAsked old.desk.setup old.desk.journal new.desk.journal client request reply place → place.claims ≡ old.desk.claims → new.desk.setup ≡ old.desk.setup → old.desk.claims ≡ new.desk.claims → new.claims ≡ old.claims
-    → new.replies ≡ old.replies ++ reply_item client place (Plain reply) ∷ [] → length new.desk.journal < 256 ^ 8
-    → new.clients.floors.items ≡ slice_set old.clients.floors.items client (stamp (length new.desk.journal) new.desk.claims) → new.clients.streams ≡ old.clients.streams → HasAsked client (Asked request) old new
-plain_asked client request reply place old new lt all asked at setup same claims told few floors streams = by_book client (Asked request) old new lt all (record {
-  request = request;
-  reply = reply;
-  place = place;
-  said = Plain reply;
-  asks = refl;
-  says = refl;
-  asked = asked;
-  at = at;
-  setup = setup;
-  same = sym same;
-  claims = claims;
-  told = told;
-  few = few;
-  short = tt;
-  floors = floors;
-  streams = streams;
-})
+pub plain_asked : (client : ℕ) (request : Request) (reply : Reply) (place : Stamp) (old new : Run)
+    → client < CLIENTS → AreAll old.clients
+    → IsAsked old.desk.setup old.desk.journal new.desk.journal client request reply place
+    → place.claims ≡ old.desk.claims → new.desk.setup ≡ old.desk.setup
+    → old.desk.claims ≡ new.desk.claims → new.rows ≡ old.rows
+    → new.replies ≡ old.replies ++ reply_item client place (Plain reply) ∷ []
+    → length new.desk.journal < 256 ^ 8
+    → new.clients.floors.items ≡ slice_set old.clients.floors.items client
+    (stamp (length new.desk.journal) new.desk.claims) → new.clients.streams ≡ old.clients.streams
+    → HasAsked client (Asked request) old new
+plain_asked client request reply place old new lt all asked at setup same rows told few floors
+    streams = by_book client (Asked request) old new lt all (record {
+      request = request;
+      reply = reply;
+      place = place;
+      said = Plain reply;
+      asks = refl;
+      says = refl;
+      asked = asked;
+      at = at;
+      setup = setup;
+      same = sym same;
+      rows = rows;
+      told = told;
+      few = few;
+      short = tt;
+      floors = floors;
+      streams = streams;
+    })
 
 -- what keeps a desk's claims, or the desk
-kept_claims : (old new : DeskParts) → (new ≡ old) ⊎ (old.claims ≡ new.claims) → new.claims ≡ old.claims
+kept_claims : (old new : DeskParts) → (new ≡ old) ⊎ (old.claims ≡ new.claims)
+    → new.claims ≡ old.claims
 kept_claims old new (inl same) = ap (λ (d : DeskParts). d.claims) same
 kept_claims old new (inr same) = sym same
 
 -- the place that is told of an answer by the book
-place_told : (P : Stamp → Type 0) (answered : Answered) (place : Stamp) → answered ≡ At place → OnAt answered P → P place
-place_told P answered place is told = let at : OnAt (At place) P = subst (λ (x : Answered). OnAt x P) is told in at
+place_told : (P : Stamp → Type 0) (answered : Answered) (place : Stamp) → answered ≡ At place
+    → OnAt answered P → P place
+place_told P answered place is told = let at : OnAt (At place) P =
+    subst (λ (x : Answered). OnAt x P) is told in at
 
 -- a whole request of a stream, by the book
-pub http_asked : (client : ℕ) (http : HttpRequest) (d : DeviceParts) (answered : Answered) (place : Stamp) (said : Said) (before response : List ℕ) (old new : Run) → client < CLIENTS → AreAll old.clients
+pub http_asked : (client : ℕ) (http : HttpRequest) (d : DeviceParts) (answered : Answered)
+    (place : Stamp) (said : Said) (before response : List ℕ) (old new : Run) → client < CLIENTS
+    → AreAll old.clients
     → d ≡ old.desk.setup.device → before ≡ [] → answered ≡ At place
-    → IsServed d http old.desk.setup client old.desk.journal new.desk.journal before response answered → OnAt answered (λ at. at.claims ≡ old.desk.claims) → new.desk.setup ≡ old.desk.setup
-    → (new.desk ≡ old.desk) ⊎ (old.desk.claims ≡ new.desk.claims) → new.claims ≡ old.claims → said ≡ Http response → IsShort said
-    → new.replies ≡ old.replies ++ reply_item client place said ∷ [] → length new.desk.journal < 256 ^ 8
-    → new.clients.floors.items ≡ slice_set old.clients.floors.items client (stamp (length new.desk.journal) new.desk.claims) → new.clients.streams ≡ old.clients.streams → HasAsked client (Heard (whole http)) old new
-http_asked client http d answered place said before response old new lt all device none is served at setup keeps claims said_is short told few floors streams =
-    let by : IsServed d http old.desk.setup client old.desk.journal new.desk.journal before response (At place) =
-    subst (IsServed d http old.desk.setup client old.desk.journal new.desk.journal before response) is served in
+    → IsServed d http old.desk.setup client old.desk.journal new.desk.journal before response
+    answered → OnAt answered (λ at. at.claims ≡ old.desk.claims) → new.desk.setup ≡ old.desk.setup
+    → (new.desk ≡ old.desk) ⊎ (old.desk.claims ≡ new.desk.claims) → new.rows ≡ old.rows
+    → said ≡ Http response → IsShort said
+    → new.replies ≡ old.replies ++ reply_item client place said ∷ []
+    → length new.desk.journal < 256 ^ 8
+    → new.clients.floors.items ≡ slice_set old.clients.floors.items client
+    (stamp (length new.desk.journal) new.desk.claims) → new.clients.streams ≡ old.clients.streams
+    → HasAsked client (Heard (whole http)) old new
+http_asked client http d answered place said before response old new lt all device none is served at
+    setup keeps rows said_is short told few floors streams =
+    let by : IsServed d http old.desk.setup client old.desk.journal new.desk.journal before response
+    (At place) =
+    subst (IsServed d http old.desk.setup client old.desk.journal new.desk.journal before response)
+    is served in
     let written = by.2 in
-    let text : response ≡ response_of d http (Some written.reply) = written.written ∙ ap (λ (xs : List ℕ). xs ++ response_of d http (Some written.reply)) none in
+    let text : response ≡ response_of d http (Some written.reply) =
+    written.written ∙ ap (λ (xs : List ℕ). xs ++ response_of d http (Some written.reply)) none in
     by_book client (Heard (whole http)) old new lt all (record {
       request = by.0;
       reply = written.reply;
       place = place;
       said = said;
       asks = ap (λ (x : DeviceParts). request_asked x http) (sym device) ∙ by.1;
-      says = ap (λ (x : DeviceParts). Some (Http (response_of x http (Some written.reply)))) (sym device) ∙ ap (λ (bytes : List ℕ). Some (Http bytes)) (sym text) ∙ ap Some (sym said_is);
+      says = ap (λ (x : DeviceParts). Some (Http (response_of x http (Some written.reply))))
+          (sym device) ∙ ap (λ (bytes : List ℕ). Some (Http bytes)) (sym text)
+          ∙ ap Some (sym said_is);
       asked = written.asked;
       at = place_told (λ at. at.claims ≡ old.desk.claims) answered place is at;
       setup = setup;
       same = kept_claims old.desk new.desk keeps;
-      claims = claims;
+      rows = rows;
       told = told;
       few = few;
       short = short;
@@ -252,41 +350,61 @@ http_asked client http d answered place said before response old new lt all devi
     })
 
 still_told : (P : Type 0) (answered : Answered) → answered ≡ Still → OnStill answered P → P
-still_told P answered is told = let at : OnStill Still P = subst (λ (x : Answered). OnStill x P) is told in at
+still_told P answered is told = let at : OnStill Still P =
+    subst (λ (x : Answered). OnStill x P) is told in at
 
 -- and without it
-pub http_fixed : (client : ℕ) (http : HttpRequest) (d : DeviceParts) (answered : Answered) (floor : Stamp) (said : Said) (before response : List ℕ) (old new : Run) → client < CLIENTS → AreAll old.clients
+pub http_fixed : (client : ℕ) (http : HttpRequest) (d : DeviceParts) (answered : Answered)
+    (floor : Stamp) (said : Said) (before response : List ℕ) (old new : Run) → client < CLIENTS
+    → AreAll old.clients
     → d ≡ old.desk.setup.device → before ≡ [] → answered ≡ Still
-    → IsServed d http old.desk.setup client old.desk.journal new.desk.journal before response answered → OnStill answered (new.desk ≡ old.desk) → new.claims ≡ old.claims → said ≡ Http response → IsShort said
-    → floor ≡ floor_at old.clients client → floor.calls < 256 ^ 8 → new.replies ≡ old.replies ++ reply_item client floor said ∷ [] → new.clients ≡ old.clients → HasAsked client (Heard (whole http)) old new
-http_fixed client http d answered floor said before response old new lt all device none is served desk claims said_is short floor_is few told clients =
-    let by : IsServed d http old.desk.setup client old.desk.journal new.desk.journal before response Still =
-    subst (IsServed d http old.desk.setup client old.desk.journal new.desk.journal before response) is served in
-    let text : response ≡ response_of d http None = by.2 ∙ ap (λ (xs : List ℕ). xs ++ response_of d http None) none in
+    → IsServed d http old.desk.setup client old.desk.journal new.desk.journal before response
+    answered → OnStill answered (new.desk ≡ old.desk) → new.rows ≡ old.rows
+    → said ≡ Http response → IsShort said
+    → floor ≡ floor_at old.clients client → floor.calls < 256 ^ 8
+    → new.replies ≡ old.replies ++ reply_item client floor said ∷ [] → new.clients ≡ old.clients
+    → HasAsked client (Heard (whole http)) old new
+http_fixed client http d answered floor said before response old new lt all device none is served
+    desk rows said_is short floor_is few told clients =
+    let by : IsServed d http old.desk.setup client old.desk.journal new.desk.journal before response
+    Still =
+    subst (IsServed d http old.desk.setup client old.desk.journal new.desk.journal before response)
+    is served in
+    let text : response ≡ response_of d http None =
+    by.2 ∙ ap (λ (xs : List ℕ). xs ++ response_of d http None) none in
     without_book client (Heard (whole http)) old new lt all (record {
       said = said;
       asks = ap (λ (x : DeviceParts). request_asked x http) (sym device) ∙ by.0;
-      says = ap (λ (x : DeviceParts). Some (Http (response_of x http None))) (sym device) ∙ ap (λ (bytes : List ℕ). Some (Http bytes)) (sym text) ∙ ap Some (sym said_is);
+      says = ap (λ (x : DeviceParts). Some (Http (response_of x http None))) (sym device)
+          ∙ ap (λ (bytes : List ℕ). Some (Http bytes)) (sym text) ∙ ap Some (sym said_is);
       desk = still_told (new.desk ≡ old.desk) answered is desk;
-      claims = claims;
-      told = told ∙ ap (λ (place : Stamp). old.replies ++ reply_item client place said ∷ []) floor_is;
+      rows = rows;
+      told = told ∙ ap (λ (place : Stamp). old.replies ++ reply_item client place said ∷ [])
+          floor_is;
       few = subst (λ (place : Stamp). place.calls < 256 ^ 8) floor_is few;
       short = short;
       clients = clients;
     })
 
 -- a stream that is refused
-pub refused_fixed : (client status : ℕ) (floor : Stamp) (said : Said) (response : List ℕ) (old new : Run) → client < CLIENTS → AreAll old.clients → response ≡ stream_response status → new.desk ≡ old.desk → new.claims ≡ old.claims
-    → said ≡ Http response → IsShort said → floor ≡ floor_at old.clients client → floor.calls < 256 ^ 8 → new.replies ≡ old.replies ++ reply_item client floor said ∷ [] → new.clients ≡ old.clients
+pub refused_fixed : (client status : ℕ) (floor : Stamp) (said : Said) (response : List ℕ)
+    (old new : Run) → client < CLIENTS → AreAll old.clients → response ≡ stream_response status
+    → new.desk ≡ old.desk → new.rows ≡ old.rows
+    → said ≡ Http response → IsShort said → floor ≡ floor_at old.clients client
+    → floor.calls < 256 ^ 8 → new.replies ≡ old.replies ++ reply_item client floor said ∷ []
+    → new.clients ≡ old.clients
     → HasAsked client (Heard (refused status)) old new
-refused_fixed client status floor said response old new lt all text desk claims said_is short floor_is few told clients = without_book client (Heard (refused status)) old new lt all (record {
-  said = said;
-  asks = refl;
-  says = ap (λ (bytes : List ℕ). Some (Http bytes)) (sym text) ∙ ap Some (sym said_is);
-  desk = desk;
-  claims = claims;
-  told = told ∙ ap (λ (place : Stamp). old.replies ++ reply_item client place said ∷ []) floor_is;
-  few = subst (λ (place : Stamp). place.calls < 256 ^ 8) floor_is few;
-  short = short;
-  clients = clients;
-})
+refused_fixed client status floor said response old new lt all text desk rows said_is short
+    floor_is few told clients =
+    without_book client (Heard (refused status)) old new lt all (record {
+      said = said;
+      asks = refl;
+      says = ap (λ (bytes : List ℕ). Some (Http bytes)) (sym text) ∙ ap Some (sym said_is);
+      desk = desk;
+      rows = rows;
+      told = told ∙ ap (λ (place : Stamp). old.replies ++ reply_item client place said ∷ [])
+          floor_is;
+      few = subst (λ (place : Stamp). place.calls < 256 ^ 8) floor_is few;
+      short = short;
+      clients = clients;
+    })

@@ -8,7 +8,8 @@ use Rattle.capture_file.specs.Packets.{packets_of}
 use Rattle.capture_file.specs.declared.items.Item.{Item}
 use Rattle.packet_writer.specs.Packet.{Blocks}
 
--- what came to an input: its packets in the order of their records, whatever they hold, and then the end
+-- what came to an input: its packets in the order of their records, whatever they hold, and then
+-- the end
 abbrev pub arrivals_of : List Item → ℕ → List Arrival
 arrivals_of items input = map Packet (packets_of input items) ++ End ∷ []
 

@@ -1,5 +1,7 @@
--- The blocks of a capture in a table: by input, and then by tick from the first one on. (This project's own.)
-use Rattle.std.specs.Prelude.{◌≡◌, ℕ, ◌+◌, ◌/◌, List, [], length, map, slice_get, slice_index_or, Option, None, unwrap_or, ℤ}
+-- The blocks of a capture in a table: by input, and then by tick from the first one on. (This
+-- project's own.)
+use Rattle.std.specs.Prelude.{◌≡◌, ℕ, ◌+◌, ◌/◌, List, [], length, map, slice_get, slice_index_or}
+use Rattle.std.specs.Prelude.{Option, None, unwrap_or, ℤ}
 use Rattle.std.specs.List.{range_with_len}
 use Rattle.io_caps.specs.declared.device.DeviceParts.{DeviceParts}
 use Rattle.map_entry.specs.Setup.{SetupParts}
@@ -14,7 +16,8 @@ BlockTable = List (List (Option (List ℤ)))
 
 -- the blocks of an input, for each tick
 abbrev pub input_blocks : DeviceParts → List Item → ℕ → ℕ → List (Option (List ℤ))
-input_blocks d items ticks input = map (λ place. blocks_in d items ticks input (d.base + place)) (range_with_len 0 ticks)
+input_blocks d items ticks input =
+    map (λ place. blocks_in d items ticks input (d.base + place)) (range_with_len 0 ticks)
 
 -- of each input
 abbrev pub table_of : DeviceParts → List Item → ℕ → BlockTable
@@ -35,4 +38,5 @@ place_of_claim s k = k / length s.device.outputs
 
 -- it has these blocks at the tick of claim k
 abbrev pub HasTick : SetupParts → BlockTable → Blocks → ℕ → Type 0
-HasTick s table blocks k = (input : ℕ) → placed table (place_of_claim s k) input ≡ blocks input (tick_of_claim s k)
+HasTick s table blocks k =
+    (input : ℕ) → placed table (place_of_claim s k) input ≡ blocks input (tick_of_claim s k)

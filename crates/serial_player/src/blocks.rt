@@ -1,6 +1,7 @@
 //! The input blocks of a capture, built once for all claims.
 
-ghost use Rattle.std.specs.Prelude.{◌≡◌, ◌≤◌, IfOk, IfSome, IfNone, Some, None, is_some, ℕ, map, refl};
+ghost use Rattle.std.specs.Prelude.{◌≡◌, ◌≤◌, IfOk, IfSome, IfNone, Some, None, is_some, ℕ};
+ghost use Rattle.std.specs.Prelude.{map, refl};
 ghost use Rattle.std.proofs.Common.{◌∙◌};
 ghost use Rattle.io_caps.specs.declared.limits.TheConstants.{SESSION_TICKS};
 ghost use Rattle.capture_file.specs.Packets.{packet_at, packets_of};
@@ -91,7 +92,10 @@ impl<'a> Samples for TickOf<'a> {
     ghost stays = { λ before after.
         (after.table.now ≡ before.table.now) × (after.place ≡ before.place) };
 
-    ghost onward = { record { still = λ a. (refl, refl); on = λ a b c f g. (g.0 ∙ f.0, g.1 ∙ f.1) } };
+    ghost onward = { record {
+      still = λ a. (refl, refl);
+      on = λ a b c f g. (g.0 ∙ f.0, g.1 ∙ f.1);
+    } };
 
     fn copy_channel(
         &mut self,
@@ -118,7 +122,10 @@ impl<'a> Looks for TickOf<'a> {
     ghost stays = { λ before after.
         (after.table.now ≡ before.table.now) × (after.place ≡ before.place) };
 
-    ghost onward = { record { still = λ a. (refl, refl); on = λ a b c f g. (g.0 ∙ f.0, g.1 ∙ f.1) } };
+    ghost onward = { record {
+      still = λ a. (refl, refl);
+      on = λ a b c f g. (g.0 ∙ f.0, g.1 ∙ f.1);
+    } };
 
     fn look(&mut self, input: u8) -> Option<bool> {
         Some(block_at(self.table, self.place, input).is_some())

@@ -1,10 +1,10 @@
 //! The claims of a history.
 
-ghost use Rattle.std.specs.Prelude.{◌≡◌, ◌≤◌, ◌<◌, ◌+◌, ◌++◌, ◌&&◌, All, Bool, IfOk, OnOk, List, Some, is_some, slice_get, ℕ, length, map};
+ghost use Rattle.std.specs.Prelude.{◌≡◌, ◌≤◌, ◌<◌, ◌&&◌, Bool, IfOk, List, Some, is_some};
+ghost use Rattle.std.specs.Prelude.{slice_get, ℕ, length, map};
 ghost use Rattle.std.specs.List.{range_with_len};
 ghost use Rattle.io_caps.specs.Device.{IsDevice};
 ghost use Rattle.io_caps.specs.declared.limits.TheConstants.{TICKS_PAST_BASE};
-ghost use Rattle.capture_file.specs.Result.{FitsClaim};
 ghost use Rattle.map_entry.specs.Row.{channels_of_output};
 ghost use Rattle.map_entry.specs.declared.entry.Entry.{Entry};
 ghost use Rattle.packet_writer.specs.Flags.{AreClosed, is_named};
@@ -31,15 +31,15 @@ fn tick_of<'a>(setup: &Setup, table: &'a [Blocks], k: u64) -> TickOf<'a>
 
 /// Sets the flag of each input whose block the packet of claim `k` finds: its row names the input,
 /// and its block is there.
-fn find(setup: &Setup, row: &[Cell], table: &[Blocks], k: u64, flags: &mut [bool])
-    requires { length flags.old ≡ length setup.now.device.inputs }
-    ensures len { length flags.new ≡ length flags.old }
-    ensures each { (i : ℕ) → i < length setup.now.device.inputs → flag_of flags.new i
-        ≡ (is_named setup.now.device.rate.frames (λ frame. row.now) i
-        && is_some (placed table.now (place_of_claim setup.now k) i)) }
+pub(crate) fn find(setup: &Setup, row: &[Cell], table: &[Blocks], k: u64, found: &mut [bool])
+    requires { length found.old ≡ length setup.now.device.inputs }
+    ensures len { length found.new ≡ length found.old }
+    ensures closed { (entries : List Entry) (blocks : Blocks)
+        → HasRow setup.now entries k row.now → HasTick setup.now table.now blocks k
+        → AreClosed setup.now entries blocks k found.new }
 {
-    mark_named(&OneRow::new(row), setup.device.rate().frames, flags);
-    let untold = look_at_marked(&mut tick_of(setup, table, k), flags);
+    mark_named(&OneRow::new(row), setup.device.rate().frames, found);
+    let untold = look_at_marked(&mut tick_of(setup, table, k), found);
     // A look at a block in memory always tells.
     prove!(untold.is_none());
 }
@@ -52,14 +52,29 @@ fn flags(
     table: &[Blocks],
     k: u64,
 ) -> Result<Flags, NoMemory>
-    ensures closed { IfOk result (λ made. (entries : List Entry) (blocks : Blocks)
+    ensures { IfOk result (λ made. (entries : List Entry) (blocks : Blocks)
         → HasRow setup.now entries k row.now → HasTick setup.now table.now blocks k
         → AreClosed setup.now entries blocks k made) }
-    ensures long { IfOk result (λ made. length made ≡ length setup.now.device.inputs) }
 {
     let mut made = vec![in alloc; false; setup.device.inputs() as usize]?;
     find(setup, row, table, k, made.as_mut_slice());
     Ok(Flags::from_vec(made))
+}
+
+/// Writes the packet of claim `k` into bytes of just its length.
+pub(crate) fn fill_packet(setup: &Setup, row: &[Cell], table: &[Blocks], k: u64, out: &mut [u8])
+    requires claim { k < TICKS_PAST_BASE }
+    requires row { RowFits setup.now.device.inputs
+        (channels_of_output setup.now.device (output_of_claim setup.now k)) row.now }
+    requires table { IsTable setup.now.device table.now }
+    requires room { length out.old ≡ packet_length setup.now.device (output_of_claim setup.now k) }
+    ensures { (entries : List Entry) (blocks : Blocks) (found : List Bool)
+        → HasRow setup.now entries k row.now → HasTick setup.now table.now blocks k
+        → AreClosed setup.now entries blocks k found
+        → out.new ≡ packet_by setup.now entries blocks found k }
+{
+    let mut blocks = tick_of(setup, table, k);
+    write_claim(&mut blocks, setup, &OneRow::new(row), k, out);
 }
 
 /// The packet of claim `k`.
@@ -74,25 +89,16 @@ fn packet(
     requires row { RowFits setup.now.device.inputs
         (channels_of_output setup.now.device (output_of_claim setup.now k)) row.now }
     requires table { IsTable setup.now.device table.now }
-    ensures value { IfOk result (λ made.
+    ensures { IfOk result (λ made.
         (entries : List Entry) (blocks : Blocks) (found : List Bool)
         → HasRow setup.now entries k row.now → HasTick setup.now table.now blocks k
         → AreClosed setup.now entries blocks k found
         → made ≡ packet_by setup.now entries blocks found k) }
-    ensures len { IfOk result (λ made. length made
-        ≡ packet_length setup.now.device (output_of_claim setup.now k)) }
 {
     let device = &setup.device;
     let output = claim_output(device.outputs(), k);
     let mut made = vec![in alloc; 0u8; packet_len(device, output)]?;
-    let mut blocks = tick_of(setup, table, k);
-    write_claim(
-        &mut blocks,
-        setup,
-        &OneRow::new(row),
-        k,
-        made.as_mut_slice(),
-    );
+    fill_packet(setup, row, table, k, made.as_mut_slice());
     Ok(Bytes::from_vec(made))
 }
 
@@ -109,10 +115,9 @@ fn claim(
     requires row { RowFits setup.now.device.inputs
         (channels_of_output setup.now.device (output_of_claim setup.now k)) row.now }
     requires table { IsTable setup.now.device table.now }
-    ensures value { IfOk result (λ made. (entries : List Entry) (blocks : Blocks)
+    ensures { IfOk result (λ made. (entries : List Entry) (blocks : Blocks)
         → HasRow setup.now entries k row.now → HasTick setup.now table.now blocks k
         → made ≡ claim_by setup.now entries blocks k) }
-    ensures fits { IfOk result (FitsClaim setup.now.device) }
 {
     let found = flags(alloc, setup, row, table, k)?;
     let packet = packet(alloc, setup, row, table, k)?;
@@ -120,37 +125,32 @@ fn claim(
 }
 
 /// The row at a place.
-fn row_at(rows: &[Row], at: usize) -> &[Cell]
+pub(crate) fn row_at(rows: &[Row], at: usize) -> &[Cell]
     requires { at < length rows.now }
     ensures { slice_get rows.now at ≡ Some result.now }
 {
     rows[at].as_slice()
 }
 
-/// Adds the claims from a first one on, one for each of these rows, which rule them.
-pub(crate) fn push_claims(
+/// The first claims, one for each of these rows, which rule them.
+pub(crate) fn make_claims(
     alloc: Global,
     setup: &Setup,
     rows: &[Row],
     table: &[Blocks],
-    first: u64,
-    made: &mut ClaimItems,
-) -> Result<(), NoMemory>
-    requires claims { first + length rows.now ≤ TICKS_PAST_BASE }
+) -> Result<ClaimItems, NoMemory>
+    requires claims { length rows.now ≤ TICKS_PAST_BASE }
     requires device { IsDevice setup.now.device }
-    requires rows { RowsFitClaims setup.now first rows.now }
+    requires rows { RowsFitClaims setup.now 0 rows.now }
     requires table { IsTable setup.now.device table.now }
-    ensures value { OnOk result ((entries : List Entry) (blocks : Blocks)
-        → HaveRows setup.now entries first rows.now
-        → ((at : ℕ) → at < length rows.now → HasTick setup.now table.now blocks (first + at))
-        → made.new ≡ made.old ++ map (claim_by setup.now entries blocks)
-        (range_with_len first (length rows.now))) }
-    ensures fits { OnOk result (All (FitsClaim setup.now.device) made.old
-        → All (FitsClaim setup.now.device) made.new) }
+    ensures { IfOk result (λ made. (entries : List Entry) (blocks : Blocks)
+        → HaveRows setup.now entries 0 rows.now
+        → ((k : ℕ) → k < length rows.now → HasTick setup.now table.now blocks k)
+        → made ≡ map (claim_by setup.now entries blocks) (range_with_len 0 (length rows.now))) }
 {
-    for at in 0..rows.len() {
-        let row = row_at(rows, at);
-        made.push(claim(alloc, setup, row, table, first + at as u64)?)?;
+    let mut made = ClaimItems::new(alloc);
+    for k in 0..rows.len() {
+        made.push(claim(alloc, setup, row_at(rows, k), table, k as u64)?)?;
     }
-    Ok(())
+    Ok(made)
 }

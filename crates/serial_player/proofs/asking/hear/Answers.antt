@@ -17,11 +17,13 @@ loop-preserved c =
     let so_far = c.loop.invariant in
     let next = c.in_ok-answer_next.ensures in
     record {
-      hears = heard_then c.args.client c.args.piece.now c.args.run.now c.loop.run c.answer_next.new.run so_far.hears next.hears;
+      hears = heard_then c.args.client c.args.piece.now c.args.run.now c.loop.run
+          c.answer_next.new.run so_far.hears next.hears;
       all = next.all;
       setup = next.hears.setup ∙ so_far.setup;
     }
 
 pub returns-then-not-branch-clause-hears : goal.returns-then-not-branch-clause-hears
 returns-then-not-branch-clause-hears c =
-    heard_then c.args.client c.args.piece.now c.args.run.now c.loop.run c.answer_next.new.run c.loop.invariant.hears c.in_ok-answer_next.ensures.hears
+    heard_then c.args.client c.args.piece.now c.args.run.now c.loop.run c.answer_next.new.run
+    c.loop.invariant.hears c.in_ok-answer_next.ensures.hears

@@ -10,7 +10,9 @@ loop-item-preserved c =
     elim c.match-packet_at.branch [
       | in-Some+in_ok-push w ↦
           rw (w.made-is, w.in_ok-push.ensures.items)
-          (packet_pushed (λ p. p.now) made w.in-Some.packet c.args.input c.args.items.now i item c.loop-item-test.true c.item-item.is w.in-Some.ensures.some c.loop-item.invariant)
+          (packet_pushed (λ p. p.now) made w.in-Some.packet c.args.input c.args.items.now i item
+          c.loop-item-test.true c.item-item.is w.in-Some.ensures.some c.loop-item.invariant)
       | in_default w ↦
-          rw w.made-is (packet_passed (λ p. p.now) made c.args.input c.args.items.now i item c.loop-item-test.true c.item-item.is w.in_default.ensures.none c.loop-item.invariant)
+          rw w.made-is (packet_passed (λ p. p.now) made c.args.input c.args.items.now i item
+          c.loop-item-test.true c.item-item.is w.in_default.ensures.none c.loop-item.invariant)
     ]

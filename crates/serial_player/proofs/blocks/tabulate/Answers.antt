@@ -12,5 +12,7 @@ loop-input-preserved c =
     let made = c.in_ok-blocks_of_packets.field-0 in
     let is : made ≡ f i =
     c.in_ok-blocks_of_packets.ensures.blocks
-    ∙ session_is (λ p. p.now) c.args.device.now items c.args.ticks i c.deref.result.now (rw c.deref.ensures.value c.in_ok-packets.ensures) in
-    c.in_ok-push.ensures.ok ∙ ap (λ (z : BlockTable). z ++ made ∷ []) c.loop-input.invariant ∙ rw is (sym (map_range_more f i))
+    ∙ session_is (λ p. p.now) c.args.device.now items c.args.ticks i c.deref.result.now
+    (rw c.deref.ensures.value c.in_ok-packets.ensures) in
+    c.in_ok-push.ensures.ok ∙ ap (λ (z : BlockTable). z ++ made ∷ []) c.loop-input.invariant
+    ∙ rw is (sym (map_range_more f i))

@@ -4,4 +4,5 @@ use Rattle.serial_player.specs.Table.{input_blocks}
 use Rattle.serial_player.proofs.blocks.tabulate.Given as goal
 
 abbrev pub invariant-loop-input : goal.invariant-loop-input
-invariant-loop-input l = l.made ≡ map (input_blocks l.device l.items l.ticks) (range_with_len 0 l.input)
+invariant-loop-input l =
+    l.made ≡ map (input_blocks l.device l.items l.ticks) (range_with_len 0 l.input)

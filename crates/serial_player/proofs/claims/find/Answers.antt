@@ -1,28 +1,27 @@
 use Rattle.std.proofs.Common.{◌≡◌, ◌<◌, ℕ, true, false, List, length, refl, sym, ap, ◌∙◌, arith}
-use Rattle.std.specs.Prelude.{is_some, not}
+use Rattle.std.specs.Prelude.{◌&&◌, is_some, not}
 use Rattle.io_caps.specs.declared.rate.Rate.{Rate}
 use Rattle.map_entry.specs.Setup.{SetupParts}
 use Rattle.map_entry.specs.declared.cell.Cell.{Cell}
 use Rattle.packet_writer.specs.Flags.{is_named}
 use Rattle.packet_writer.specs.Packet.{flag_of}
 use Rattle.serial_player.specs.Table.{place_of_claim, placed}
-use Rattle.serial_player.proofs.TableClaims.{flag_is, when_none}
+use Rattle.serial_player.proofs.TableClaims.{flag_is, flags_closed, when_none}
 use Rattle.serial_player.proofs.claims.find.Goals as goal
 
-pub returns-clause-each : goal.returns-clause-each
-returns-clause-each c = λ i there.
+pub returns-clause-closed : goal.returns-clause-closed
+returns-clause-closed c = λ entries blocks rules has.
     let s = c.args.setup.now in
+    let k = c.args.k in
+    let table = c.args.table.now in
     let row = c.args.row.now in
     let n = s.device.rate.frames in
     let look = c.look_at_marked-untold.ensures in
     let tick = c.tick_of.result in
-    let here = is_some (placed c.args.table.now (place_of_claim s c.args.k) i) in
-    let frames : c.rate.result.frames ≡ n = ap (λ (r : Rate). r.frames) c.rate.ensures.value ∙ ap (λ (x : SetupParts). x.device.rate.frames) c.setup.view_is in
-    let lt : i < length c.args.flags.now = omega (arith, there, c.requires) in
-    let within : i < length c.mark_named.new.flags = omega (arith, lt, c.mark_named.ensures.len) in
-    let marked : flag_of c.mark_named.new.flags i ≡ is_named n (λ f. row) i =
-    c.mark_named.ensures.each i lt ∙ ap (λ (m : ℕ). is_named m (λ f. c.new.result.row.now) i) frames ∙ ap (λ (r : List Cell). is_named n (λ f. r) i) (c.new.ensures.row 0) in
-    let same : is_some (placed tick.table.now tick.place i) ≡ here = rw (c.tick_of.ensures.table, c.tick_of.ensures.place) refl in
+    let here = λ (i : ℕ). is_some (placed table (place_of_claim s k) i) in
+    let frames : c.rate.result.frames ≡ n =
+    ap (λ (r : Rate). r.frames) c.rate.ensures.value
+    ∙ ap (λ (x : SetupParts). x.device.rate.frames) c.setup.view_is in
     let flags = c.mark_named.new.flags in
     let found = c.look_at_marked-untold.new.flags in
     let after = c.look_at_marked-untold.new.looks in
@@ -30,8 +29,22 @@ returns-clause-each c = λ i there.
     let set_told : (j : ℕ) → j < length flags → flag_of flags j ≡ true
     → flag_of found j ≡ is_some (placed after.table.now after.place j) =
     when_none c.look_at_marked-untold.result told look.marked in
-    let unset_told : (j : ℕ) → j < length flags → flag_of flags j ≡ false → flag_of found j ≡ false =
+    let unset_told : (j : ℕ) → j < length flags → flag_of flags j ≡ false
+    → flag_of found j ≡ false =
     when_none c.look_at_marked-untold.result told look.other in
+    let each : (i : ℕ) → i < length s.device.inputs
+    → flag_of found i ≡ (is_named n (λ f. row) i && here i) = λ i there.
+    let lt : i < length c.args.found.now = omega (arith, there, c.requires) in
+    let within : i < length flags = omega (arith, lt, c.mark_named.ensures.len) in
+    let marked : flag_of flags i ≡ is_named n (λ f. row) i =
+    c.mark_named.ensures.each i lt
+    ∙ ap (λ (m : ℕ). is_named m (λ f. c.new.result.row.now) i) frames
+    ∙ ap (λ (r : List Cell). is_named n (λ f. r) i) (c.new.ensures.row 0) in
+    let same : is_some (placed tick.table.now tick.place i) ≡ here i =
+    rw (c.tick_of.ensures.table, c.tick_of.ensures.place) refl in
     let seen = look.kept i (is_some (placed tick.table.now tick.place i)) refl in
-    flag_is (is_named n (λ f. row) i) here (flag_of found i) (flag_of flags i) marked
-    (λ set. set_told i within set ∙ sym seen ∙ same) (λ none. unset_told i within none)
+    flag_is (is_named n (λ f. row) i) (here i) (flag_of found i) (flag_of flags i) marked
+    (λ set. set_told i within set ∙ sym seen ∙ same) (λ none. unset_told i within none) in
+    let long : length found ≡ length s.device.inputs =
+    look.len ∙ c.mark_named.ensures.len ∙ c.requires in
+    flags_closed s entries blocks table k row found rules has long each

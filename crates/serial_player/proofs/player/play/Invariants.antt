@@ -6,7 +6,7 @@ use Rattle.serial_player.proofs.player.play.Given as goal
 
 abbrev pub invariant-loop-item : goal.invariant-loop-item
 invariant-loop-item l = record {
-  run : IsRun l.setup l.table l.run;
+  run : IsRun l.setup l.run;
   played : IsPlayed l.setup (take l.item-index l.items) l.run;
   claims : l.run.desk.claims ≡ sum_by claims_of (take l.item-index l.items);
 }

@@ -6,9 +6,12 @@ use Rattle.serial_player.proofs.blocks.TickOfSamples.copy_channel.Goals as goal
 
 pub copy_from_block-requires-clause-room : goal.copy_from_block-requires-clause-room
 copy_from_block-requires-clause-room c =
-    rw c.in-Some.ensures.some at (c.requires.room (placed c.args.self.now.table.now c.args.self.now.place) (λ i. refl))
+    rw c.in-Some.ensures.some at
+    (c.requires.room (placed c.args.self.now.table.now c.args.self.now.place) (λ i. refl))
 
 pub returns-in-None-clause-value : goal.returns-in-None-clause-value
 returns-in-None-clause-value c = λ b agrees.
-    c.fill.ensures.after (λ y e. e) ∙ silent c.args.channels c.args.channel c.args.frame (length c.args.out.now)
-    ∙ ap (λ (o : Option (List ℤ)). channel_samples o c.args.channels c.args.channel c.args.frame (length c.args.out.now)) (sym (agrees c.args.input ∙ c.in-None.ensures.none))
+    c.fill.ensures.after (λ y e. e)
+    ∙ silent c.args.channels c.args.channel c.args.frame (length c.args.out.now)
+    ∙ ap (λ (o : Option (List ℤ)). channel_samples o c.args.channels c.args.channel c.args.frame
+    (length c.args.out.now)) (sym (agrees c.args.input ∙ c.in-None.ensures.none))
