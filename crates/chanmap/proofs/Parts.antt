@@ -1,5 +1,6 @@
 -- A sink that takes one text and then another.
-use Rattle.std.proofs.Common.{◌≡◌, ℕ, ◌-◌, ◌≤◌, List, [], ◌∷◌, ◌++◌, length, get_or, take, drop, Option, sym, ap, ◌∙◌, append_assoc, arith}
+use Rattle.std.proofs.Common.{◌≡◌, ℕ, ◌-◌, ◌≤◌, List, [], ◌∷◌, ◌++◌, length, get_or, take, drop}
+use Rattle.std.proofs.Common.{Option, sym, ap, ◌∙◌, append_assoc, arith}
 use Rattle.std.specs.List.{flat_map}
 use Rattle.std.proofs.lemmas.List.{take_all}
 use Rattle.std.specs.Io.KnownBytes.{Appends}
@@ -7,22 +8,26 @@ use Rattle.chan_io.specs.Streams.{TakesPrefix}
 use Rattle.chan_io.proofs.Told.{Appends-then, TellsAlike-then}
 
 -- the front of the first is a front of both
-pub front_first : (old new : Option (List ℕ)) (first second : List ℕ) → TakesPrefix old new first → TakesPrefix old new (first ++ second)
+pub front_first : (old new : Option (List ℕ)) (first second : List ℕ) → TakesPrefix old new first
+    → TakesPrefix old new (first ++ second)
 front_first old new first second took = record {
   front = took.front;
   rest = took.rest ++ second;
-  parts = ap (λ (text : List ℕ). text ++ second) took.parts ∙ append_assoc took.front took.rest second;
+  parts = ap (λ (text : List ℕ). text ++ second) took.parts
+      ∙ append_assoc took.front took.rest second;
   alike = took.alike;
   taken = took.taken;
 }
 
 -- the first, and then a front of the second
-pub front_behind : (old mid new : Option (List ℕ)) (first second : List ℕ) → TakesPrefix old mid first → Appends old mid first
+pub front_behind : (old mid new : Option (List ℕ)) (first second : List ℕ)
+    → TakesPrefix old mid first → Appends old mid first
     → TakesPrefix mid new second → TakesPrefix old new (first ++ second)
 front_behind old mid new first second before all took = record {
   front = first ++ took.front;
   rest = took.rest;
-  parts = ap (λ (text : List ℕ). first ++ text) took.parts ∙ sym (append_assoc first took.front took.rest);
+  parts = ap (λ (text : List ℕ). first ++ text) took.parts
+      ∙ sym (append_assoc first took.front took.rest);
   alike = TellsAlike-then old mid new before.alike took.alike;
   taken = Appends-then old mid new first took.front all took.taken;
 }

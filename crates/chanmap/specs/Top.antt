@@ -6,6 +6,7 @@ use Rattle.std.specs.Io.KnownBytes.{Appends}
 use Rattle.chan_io.specs.Streams.{WholeRead, TakesPrefix, TellsAlike}
 use Rattle.capture_file.specs.Capture.{CaptureParts, IsCaptureAt, IsCaptureText}
 use Rattle.capture_file.specs.Fault.{FaultIs}
+use Rattle.capture_file.specs.Records.{ShowsAll}
 use Rattle.capture_file.specs.Result.{result_text}
 use Rattle.capture_file.specs.declared.fault.CaptureFault.{CaptureFault}
 use Rattle.capture_file.specs.declared.fault.CaptureKind.{CaptureKind}
@@ -53,13 +54,15 @@ pub record IsWholeInput (bytes : List ℕ) (capture : CaptureParts) : Type 0 whe
   pub sound : (at : ℕ) (kind : CaptureKind) → IsRefusedAt bytes at kind → ⊥
 
 -- The bytes are the text of one capture and have no fault, and this text is the result of the
--- capture's serial history, which is legal and in which no activation changes a tick that has begun.
+-- capture's serial history: nothing of it is left out, it is legal, and in it no activation changes
+-- a tick that has begun.
 pub record IsSerialAnswer (bytes text : List ℕ) : Type 0 where
   pub capture : CaptureParts
   pub history : History
   pub input : IsWholeInput bytes capture
   pub serial : IsSerial capture history
   pub begun : KeepsBegunTicks capture history
+  pub shows : ShowsAll history
   pub written : text ≡ result_text capture.setup.device history
 
 -- what a command makes of its input
@@ -68,22 +71,34 @@ IsAnswer Serial bytes text = IsSerialAnswer bytes text
 
 -- ---- how a run ends
 
--- the source was read to its end, and the sink took all that the command makes of it
-pub record IsDone (command : Command) (left_old left_new taken_old taken_new : Option (List ℕ)) : Type 0 where
-  pub bytes : List ℕ
+-- the sink took all that the command makes of these bytes
+pub record IsGiven (command : Command) (bytes : List ℕ) (taken_old taken_new : Option (List ℕ))
+    : Type 0 where
   pub text : List ℕ
-  pub read : WholeRead left_old left_new MOST_BYTES bytes
   pub answer : IsAnswer command bytes text
   pub alike : TellsAlike taken_old taken_new
   pub took : Appends taken_old taken_new text
 
--- the source was read to its end, and the sink took the front of what the command makes of it
-pub record IsCutShort (command : Command) (left_old left_new taken_old taken_new : Option (List ℕ)) : Type 0 where
-  pub bytes : List ℕ
+-- the sink took the front of what the command makes of these bytes
+pub record IsGivenInPart (command : Command) (bytes : List ℕ)
+    (taken_old taken_new : Option (List ℕ)) : Type 0 where
   pub text : List ℕ
-  pub read : WholeRead left_old left_new MOST_BYTES bytes
   pub answer : IsAnswer command bytes text
   pub took : TakesPrefix taken_old taken_new text
+
+-- the source was read to its end, and the sink took all that the command makes of it
+pub record IsDone (command : Command) (left_old left_new taken_old taken_new : Option (List ℕ))
+    : Type 0 where
+  pub bytes : List ℕ
+  pub read : WholeRead left_old left_new MOST_BYTES bytes
+  pub given : IsGiven command bytes taken_old taken_new
+
+-- the source was read to its end, and the sink took the front of what the command makes of it
+pub record IsCutShort (command : Command) (left_old left_new taken_old taken_new : Option (List ℕ))
+    : Type 0 where
+  pub bytes : List ℕ
+  pub read : WholeRead left_old left_new MOST_BYTES bytes
+  pub given : IsGivenInPart command bytes taken_old taken_new
 
 -- the bytes have this first fault, and are the text of no capture
 pub record IsNoCapture (bytes : List ℕ) (fault : CaptureFault) : Type 0 where
@@ -99,7 +114,8 @@ pub record IsFaulty (left_old left_new : Option (List ℕ)) (fault : CaptureFaul
 -- the source tells its bytes, and they are the text of a capture, not too long
 abbrev pub HoldsCapture : Option (List ℕ) → Type 0
 HoldsCapture None = ⊥
-HoldsCapture (Some bytes) = (length bytes ≤ MOST_BYTES) × (capture : CaptureParts) × IsCaptureText capture bytes
+HoldsCapture (Some bytes) =
+    (length bytes ≤ MOST_BYTES) × (capture : CaptureParts) × IsCaptureText capture bytes
 
 -- the source tells its bytes, not too long, and they have this first fault
 abbrev pub HoldsFault : Option (List ℕ) → CaptureFault → Type 0
@@ -138,12 +154,14 @@ unfoldable pub line_of : End → List ℕ
 line_of Usage = codes "usage: chanmap serial\n"
 line_of ReadFault = codes "read fault\n"
 line_of WriteFault = codes "write fault\n"
-line_of (Refused fault) = codes "refused at " ++ (decimal fault.at ++ (codes ": " ++ kind_text fault.kind))
+line_of (Refused fault) =
+    codes "refused at " ++ (decimal fault.at ++ (codes ": " ++ kind_text fault.kind))
 line_of TooLong = codes "too long\n"
 line_of NoMemory = codes "no memory\n"
 
 -- A run ended so: this is its status, and `err` took its line, all of it unless its count rose.
-pub record IsToldEnd (status : ℕ) (old new : Option (List ℕ)) (Failed : Type 0) (end : End) : Type 0 where
+pub record IsToldEnd (status : ℕ) (old new : Option (List ℕ)) (Failed : Type 0)
+    (end : End) : Type 0 where
   pub status_is : status ≡ status_of end
   pub line : TakesPrefix old new (line_of end)
   pub whole : (Failed → ⊥) → Appends old new (line_of end)
@@ -154,7 +172,8 @@ pub record IsTold (status : ℕ) (old new : Option (List ℕ)) (Failed : Type 0)
   pub told : IsToldEnd status old new Failed end
 
 -- it was refused for the first fault of the input, and was told so
-pub record IsToldFault (left_old left_new old new : Option (List ℕ)) (Failed : Type 0) : Type 0 where
+pub record IsToldFault (left_old left_new old new : Option (List ℕ))
+    (Failed : Type 0) : Type 0 where
   pub fault : CaptureFault
   pub faulty : IsFaulty left_old left_new fault
   pub told : IsToldEnd 5 old new Failed (Refused fault)

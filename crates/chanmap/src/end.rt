@@ -112,8 +112,8 @@ fn write_line<X: Sink>(sink: &mut X, end: End) -> Result<(), Failed>
 
 /// Gives `err` the line of an end, and returns its status, also where `err` fails.
 pub(crate) fn tell<X: Sink>(err: &mut X, end: End) -> u8
-    ensures { IsToldEnd result (X.taken err.old) (X.taken err.new) (Rose (X.faults err.old) (X.faults
-        err.new)) end }
+    ensures { IsToldEnd result (X.taken err.old) (X.taken err.new)
+        (Rose (X.faults err.old) (X.faults err.new)) end }
 {
     // A line that could not be written leaves the status.
     let _told = write_line(err, end);

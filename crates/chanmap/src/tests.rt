@@ -39,16 +39,18 @@ const MID_TICK_RESULT: &str = "43484d524553310a
     43 0000001d 0000000000000000 00 8060 0000 00000000 00000001 0000000000000000
     43 00000021 0000000000000001 00 8061 0000 00000000 00000002 000000000000000000000000
     43 0000001d 0000000000000002 00 8060 0001 00000002 00000001 0000000000000000
-    48 00000025 0000000000000003 00 0000000000000001 0000000000000002 00 02 00 01 000000 01 01 000001
+    48 00000025 0000000000000003 00 0000000000000001 0000000000000002 00 02 00 01 000000 01 01
+       000001
     52 00000023 00 0000000000000000 0000000000000003 01 00 0000000000000001 0000000000000002
     43 00000021 0000000000000003 00 8061 0001 00000002 00000002 000000000000000000000000
     43 0000001d 0000000000000004 01 8060 0002 00000004 00000001 1111 0000 3333 0000
     43 00000021 0000000000000005 01 8061 0002 00000004 00000002 222200 000000 444400 000000
     45 00000000";
 
-/// Inputs `a` of two channels and `b` of one. The outputs `x` in L16 and `y` in L24 have two channels
-/// each: `x` carries channel 0 of `b` and 1 of `a`, and `y` channel 0 of `a` and nothing. Packets of
-/// `a` come at ticks 0 and 1, and one of `b` at tick 1; then there are two ticks of claims.
+/// Inputs `a` of two channels and `b` of one. The outputs `x` in L16 and `y` in L24 have two
+/// channels each: `x` carries channel 0 of `b` and 1 of `a`, and `y` channel 0 of `a` and nothing.
+/// Packets of `a` come at ticks 0 and 1, and one of `b` at tick 1; then there are two ticks of
+/// claims.
 const TWO_INPUTS: &str = "43484d434150310a 44 0000003b
     0000bb80 0002 0000000000000000 01 02 02
     01 61 02 10 60 01 01
@@ -213,9 +215,9 @@ fn two_inputs(rt: HostRuntime) -> Result<(), Fail> {
     Ok(())
 }
 
-/// Packets of the input `a`, which has two channels, and what the first packets of `x` in L16 and `y`
-/// in L24 hold, which carry both channels: the bits of `a`, the records, whether a block is found, and
-/// the payloads of `x` and `y`.
+/// Packets of the input `a`, which has two channels, and what the first packets of `x` in L16 and
+/// `y` in L24 hold, which carry both channels: the bits of `a`, the records, whether a block is
+/// found, and the payloads of `x` and `y`.
 const PACKETS: [(u8, &str, bool, &str, &str); 15] = [
     // l16_to_l24
     (
@@ -245,28 +247,32 @@ const PACKETS: [(u8, &str, bool, &str, &str); 15] = [
     // and 27 bytes
     (
         16,
-        "50 00000024 00 b260 0001 00000000 0000000a 0000000b 0000000c bede0001 00000000 12345678 000003",
+        "50 00000024 00 b260 0001 00000000 0000000a 0000000b 0000000c bede0001 00000000
+            12345678 000003",
         true,
         "1234 5678 0000 0000",
         "123400 567800 000000 000000",
     ),
     (
         16,
-        "50 00000024 00 b260 0001 00000000 0000000a 0000000b 0000000c bede0001 00000000 12345678 000007",
+        "50 00000024 00 b260 0001 00000000 0000000a 0000000b 0000000c bede0001 00000000
+            12345678 000007",
         false,
         "0000 0000 0000 0000",
         "000000 000000 000000 000000",
     ),
     (
         16,
-        "50 00000024 00 b260 0001 00000000 0000000a 0000000b 0000000c bede0001 00000000 12345678 000000",
+        "50 00000024 00 b260 0001 00000000 0000000a 0000000b 0000000c bede0001 00000000
+            12345678 000000",
         false,
         "0000 0000 0000 0000",
         "000000 000000 000000 000000",
     ),
     (
         16,
-        "50 00000024 00 b260 0001 00000000 0000000a 0000000b 0000000c bede0001 00000000 12345678 000008",
+        "50 00000024 00 b260 0001 00000000 0000000a 0000000b 0000000c bede0001 00000000
+            12345678 000008",
         false,
         "0000 0000 0000 0000",
         "000000 000000 000000 000000",
@@ -388,7 +394,8 @@ fn packets(rt: HostRuntime) -> Result<(), Fail> {
     Ok(())
 }
 
-/// The first tick is 2147483647, and the timestamps wrap behind it. `x` carries both channels of `a`.
+/// The first tick is 2147483647, and the timestamps wrap behind it. `x` carries both channels of
+/// `a`.
 const WRAPS: &str = "43484d434150310a 44 00000026
     0000bb80 0002 000000007fffffff 01 01 01
     01 61 02 10 60 01 01

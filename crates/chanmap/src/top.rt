@@ -6,18 +6,20 @@ ghost use Rattle.chan_io.specs.Causes.{Rose};
 ghost use Rattle.chan_io.specs.Streams.{BoundedRead, LongRead};
 ghost use Rattle.capture_file.specs.Walk.{IfFault};
 ghost use Rattle.capture_file.specs.declared.fault.CaptureFault.{CaptureFault};
-ghost use Rattle.chanmap.specs.Top.{HoldsCapture, HoldsFault, HoldsTooMuch, IsAnswer, IsCutShort};
-ghost use Rattle.chanmap.specs.Top.{IsDone, IsFaulty, IsNoCapture, IsSerialAnswer, IsTold, IsToldEnd};
-ghost use Rattle.chanmap.specs.Top.{IsToldFault, IsWholeInput, command_of, line_of};
+ghost use Rattle.chanmap.specs.Top.{HoldsCapture, HoldsFault, HoldsTooMuch, IsCutShort, IsDone};
+ghost use Rattle.chanmap.specs.Top.{IsFaulty, IsGiven, IsGivenInPart, IsNoCapture, IsTold};
+ghost use Rattle.chanmap.specs.Top.{IsToldEnd, IsToldFault, IsWholeInput, command_of};
 ghost use Rattle.chanmap.specs.declared.command.Command.{Command};
+ghost use Rattle.chanmap.specs.declared.command.Command.TheVariants.{Serial};
+ghost use Rattle.chanmap.specs.declared.top.Unanswered.TheVariants.{Refused, Unwritten};
 ghost use Rattle.chanmap.specs.declared.end.End.TheVariants.{NoMemory};
 
 use crate::command::{Command, command_of};
 use crate::end::{End, tell};
-use capture_file::{Capture, CaptureFault, CaptureKind, read_capture, write_result};
-use chan_io::{Sink, Source, Unread, read_whole, write_whole};
+use capture_file::{Capture, CaptureFault, CaptureKind, read_capture};
+use chan_io::{Sink, Source, Unread, read_whole};
 use io_caps::Or;
-use serial_player::serial;
+use serial_player::write_serial;
 use std::alloc::Global;
 
 /// The most bytes of an input that is read: 64 MiB.
@@ -41,25 +43,58 @@ fn read_all<'a>(alloc: Global, bytes: &'a [u8]) -> Result<Capture<'a>, Or<Captur
     }
 }
 
-/// The result of the serial history of the capture that these bytes are, or their first fault.
-fn serial_answer(alloc: Global, bytes: &[u8]) -> Result<Vec<u8>, Or<CaptureFault>>
-    ensures ok { IfOk result (λ text. IsSerialAnswer bytes.now text.items) }
-    ensures fault { IfErr result (λ e. IfFault e (IsNoCapture bytes.now)) }
-{
-    let capture = read_all(alloc, bytes)?;
-    let history = serial(alloc, &capture)?;
-    let mut text = Vec::new(alloc);
-    write_result(alloc, &capture.setup.device, &history, &mut text)?;
-    Ok(text)
+/// Why a command's answer to its input wasn't given whole.
+enum Unanswered {
+    /// The input has this fault.
+    Refused(CaptureFault),
+    /// The sink failed.
+    Unwritten,
+    /// Memory ran out.
+    NoMemory,
 }
 
-/// What a command makes of its input, or the input's first fault.
-fn answer(alloc: Global, command: Command, bytes: &[u8]) -> Result<Vec<u8>, Or<CaptureFault>>
-    ensures ok { IfOk result (λ text. IsAnswer command bytes.now text.items) }
-    ensures fault { IfErr result (λ e. IfFault e (IsNoCapture bytes.now)) }
+/// Gives the sink the result of the capture that these bytes are, piece by piece, or tells their
+/// first fault.
+fn answer_serial<K: Sink>(alloc: Global, bytes: &[u8], out: &mut K) -> Result<(), Unanswered>
+    ensures done { OnOk result (IsGiven Serial bytes.now (K.taken out.old) (K.taken out.new)) }
+    ensures write_fault { IsErrOf result Unwritten → Rose (K.faults out.old) (K.faults out.new) }
+    ensures cut_short { IsErrOf result Unwritten
+        → IsGivenInPart Serial bytes.now (K.taken out.old) (K.taken out.new) }
+    ensures refused { (fault : CaptureFault) → IsErrOf result (Refused fault)
+        → IsNoCapture bytes.now fault }
+    ensures nothing { OnErr result ((IsErrOf result Unwritten → ⊥)
+        → K.taken out.new ≡ K.taken out.old) }
+{
+    let capture = match read_all(alloc, bytes) {
+        Ok(capture) => capture,
+        Err(Or::Fault(fault)) => return Err(Unanswered::Refused(fault)),
+        Err(Or::NoMemory) => return Err(Unanswered::NoMemory),
+    };
+    match write_serial(alloc, &capture, out) {
+        Ok(()) => Ok(()),
+        Err(Or::Fault(_)) => Err(Unanswered::Unwritten),
+        Err(Or::NoMemory) => Err(Unanswered::NoMemory),
+    }
+}
+
+/// Gives the sink what a command makes of its input, or tells the input's first fault.
+fn answer<K: Sink>(
+    alloc: Global,
+    command: Command,
+    bytes: &[u8],
+    out: &mut K,
+) -> Result<(), Unanswered>
+    ensures done { OnOk result (IsGiven command bytes.now (K.taken out.old) (K.taken out.new)) }
+    ensures write_fault { IsErrOf result Unwritten → Rose (K.faults out.old) (K.faults out.new) }
+    ensures cut_short { IsErrOf result Unwritten
+        → IsGivenInPart command bytes.now (K.taken out.old) (K.taken out.new) }
+    ensures refused { (fault : CaptureFault) → IsErrOf result (Refused fault)
+        → IsNoCapture bytes.now fault }
+    ensures nothing { OnErr result ((IsErrOf result Unwritten → ⊥)
+        → K.taken out.new ≡ K.taken out.old) }
 {
     match command {
-        Command::Serial => serial_answer(alloc, bytes),
+        Command::Serial => answer_serial(alloc, bytes, out),
     }
 }
 
@@ -101,29 +136,26 @@ fn run<S: Source, K: Sink>(
         Err(Unread::TooLong) => return Err(End::TooLong),
         Err(Unread::NoMemory) => return Err(End::NoMemory),
     };
-    let text = match answer(alloc, command, &bytes) {
-        Ok(text) => text,
-        Err(Or::Fault(fault)) => return Err(End::Refused(fault)),
-        Err(Or::NoMemory) => return Err(End::NoMemory),
-    };
-    match write_whole(out, &text) {
+    match answer(alloc, command, &bytes, out) {
         Ok(()) => Ok(()),
-        Err(_) => Err(End::WriteFault),
+        Err(Unanswered::Refused(fault)) => Err(End::Refused(fault)),
+        Err(Unanswered::Unwritten) => Err(End::WriteFault),
+        Err(Unanswered::NoMemory) => Err(End::NoMemory),
     }
 }
 
 /// Ends a run whose words found no memory: gives `err` the line of that, and returns its status.
 pub fn without_words<X: Sink>(err: &mut X) -> u8
-    ensures { IsToldEnd result (X.taken err.old) (X.taken err.new) (Rose (X.faults err.old) (X.faults
-        err.new)) NoMemory }
+    ensures { IsToldEnd result (X.taken err.old) (X.taken err.new)
+        (Rose (X.faults err.old) (X.faults err.new)) NoMemory }
 {
     tell(err, End::NoMemory)
 }
 
 /// Does what the words behind the program's name say, and returns the exit status. The words are
 /// looked at first, then the source is read to its end, then its bytes are read as the command's
-/// input, and then what the command makes of them is given to `out`. Each status but 0 gives `err` a
-/// line; where `err` fails, the status stays.
+/// input, and then what the command makes of them is given to `out`, piece by piece; all memory is
+/// taken before that. Each status but 0 gives `err` a line; where `err` fails, the status stays.
 ///
 /// | status | comes | line |
 /// |---|---|---|
@@ -131,7 +163,7 @@ pub fn without_words<X: Sink>(err: &mut X) -> u8
 /// | 2 | exactly where the words are not `serial` alone | `usage: chanmap serial` |
 /// | 3 | only where the source's count of faults rose | `read fault` |
 /// | 4 | only where the count of `out` rose, which took the front of the result | `write fault` |
-/// | 5 | all was read, and the bytes are no capture; P and KIND tell the first fault | `refused at P: KIND` |
+/// | 5 | all was read, and the bytes are no capture: their first fault | `refused at P: KIND` |
 /// | 7 | `MOST_BYTES` + 1 bytes were read | `too long` |
 /// | 12 | memory ran out | `no memory` |
 pub fn chanmap<S: Source, K: Sink, X: Sink>(

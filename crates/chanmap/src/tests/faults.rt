@@ -100,8 +100,8 @@ const DEVICE_CHANGES: [(usize, usize, &str, &str); 34] = [
     (79, 79, "00", "refused at 79: trailing"),
 ];
 
-/// Changes of the capture with an activation. Its packet stands at 65, claims at 91 and 118, and the
-/// activation at 100.
+/// Changes of the capture with an activation. Its packet stands at 65, claims at 91 and 118, and
+/// the activation at 100.
 const RECORD_CHANGES: [(usize, usize, &str, &str); 12] = [
     // a packet of an input that isn't there
     (70, 71, "01", "refused at 65: body"),

@@ -1,7 +1,8 @@
 use Rattle.std.proofs.Common.{◌∷◌, [], refl, lit<}
 use Rattle.std.specs.Prelude.{Contains}
 use Rattle.chanmap.specs.declared.end.End.{End}
-use Rattle.chanmap.specs.declared.end.End.TheVariants.{Usage, ReadFault, WriteFault, Refused, TooLong, NoMemory}
+use Rattle.chanmap.specs.declared.end.End.TheVariants.{Usage, ReadFault, WriteFault, Refused}
+use Rattle.chanmap.specs.declared.end.End.TheVariants.{TooLong, NoMemory}
 use Rattle.chanmap.specs.Top.{status_of}
 use Rattle.chanmap.proofs.Ends.{completes, done_answered, done_shorter, refuses, stops}
 use Rattle.chanmap.proofs.top.chanmap.Goals as goal
@@ -29,16 +30,19 @@ pub returns-in-Err-clause-complete : goal.returns-in-Err-clause-complete
 returns-in-Err-clause-complete g c command words holds calm quiet =
     let ends = c.in-Err.ensures in
     rw c.tell.ensures.status_is
-    (completes _ c.in-Err.end _ command _ _ _ _ refl ends.usage.0 ends.read_fault ends.write_fault ends.refused ends.too_long words holds calm quiet)
+    (completes _ c.in-Err.end _ command _ _ _ _ refl ends.usage.0 ends.read_fault ends.write_fault
+    ends.refused ends.too_long words holds calm quiet)
 
 pub returns-in-Err-clause-refuses : goal.returns-in-Err-clause-refuses
 returns-in-Err-clause-refuses g c command fault words holds calm =
     let ends = c.in-Err.ensures in
     rw c.tell.ensures.status_is
-    (refuses _ c.in-Err.end _ command fault _ _ _ _ _ refl ends.usage.0 ends.read_fault ends.cut_short ends.too_long words holds calm)
+    (refuses _ c.in-Err.end _ command fault _ _ _ _ _ refl ends.usage.0 ends.read_fault
+    ends.cut_short ends.too_long words holds calm)
 
 pub returns-in-Err-clause-stops : goal.returns-in-Err-clause-stops
 returns-in-Err-clause-stops g c command words holds calm =
     let ends = c.in-Err.ensures in
     rw c.tell.ensures.status_is
-    (stops _ c.in-Err.end _ command _ _ _ _ _ refl ends.usage.0 ends.read_fault ends.cut_short ends.refused words holds calm)
+    (stops _ c.in-Err.end _ command _ _ _ _ _ refl ends.usage.0 ends.read_fault ends.cut_short
+    ends.refused words holds calm)

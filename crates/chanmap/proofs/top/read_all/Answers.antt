@@ -12,9 +12,11 @@ returns-in_err-capture-clause-fault c =
 pub returns-then-place-bytes-clause-found : goal.returns-then-place-bytes-clause-found
 returns-then-place-bytes-clause-found c =
     let read = c.in_ok-capture.ensures in
-    whole_input c.args.bytes.now c.in_ok-capture.capture c.in_ok-capture.place (omega arith) read.found read.only read.exact
+    whole_input c.args.bytes.now c.in_ok-capture.capture c.in_ok-capture.place
+    (omega arith) read.found read.only read.exact
 
 pub returns-clause-fault : goal.returns-clause-fault
 returns-clause-fault c =
     let read = c.in_ok-capture.ensures in
-    trailing c.args.bytes.now c.in_ok-capture.capture c.in_ok-capture.place (omega (arith, read.found.within)) read.found read.only
+    trailing c.args.bytes.now c.in_ok-capture.capture c.in_ok-capture.place
+    (omega (arith, read.found.within)) read.found read.only
