@@ -1,6 +1,7 @@
 pub mod Ranges
 pub mod Places
 pub mod Tables
+pub mod Packets
 pub mod TableClaims
 pub mod Sorting
 pub mod Ticks

@@ -1,10 +1,13 @@
 //! The input blocks of a capture, built once for all claims.
 
-ghost use Rattle.std.specs.Prelude.{◌≡◌, ◌≤◌, IfOk, IfSome, IfNone, Some, None, is_some, ℕ};
-ghost use Rattle.std.specs.Prelude.{map, refl};
+ghost use Rattle.std.specs.Prelude.{◌≡◌, ◌≤◌, [], All, IfOk, IfSome, IfNone, Some, None, is_some};
+ghost use Rattle.std.specs.Prelude.{ℕ, length, map, refl};
 ghost use Rattle.std.proofs.Common.{◌∙◌};
 ghost use Rattle.io_caps.specs.declared.limits.TheConstants.{SESSION_TICKS};
-ghost use Rattle.capture_file.specs.Packets.{packet_at, packets_of};
+ghost use Rattle.capture_file.specs.Items.{IsItemThere};
+ghost use Rattle.capture_file.specs.Packets.{packet_at};
+ghost use Rattle.capture_file.specs.declared.items.Item.TheVariants.{Packet};
+ghost use Rattle.serial_player.specs.Arrivals.{HavePackets};
 ghost use Rattle.serial_player.specs.Table.{placed, table_of};
 
 use block_builder::{Blocks, blocks_of_packets};
@@ -16,25 +19,46 @@ use std::alloc::Global;
 /// The blocks of a capture: by input, and then by tick from the first one on.
 pub(crate) type BlockTable = ListOf<Blocks>;
 
-/// The packet of a record, where it came to this input.
-fn packet_at<'a>(item: &Item<'a>, input: u8) -> Option<&'a [u8]>
-    ensures some { IfSome result (λ packet. packet_at input item.now ≡ Some packet.now) }
-    ensures none { IfNone result (packet_at input item.now ≡ None) }
+/// The packets of an input, in order of arrival.
+type Packets<'a> = Vec<&'a [u8]>;
+
+/// The input and the packet of a record that brings one.
+fn packet_of<'a>(item: &Item<'a>) -> Option<(u8, &'a [u8])>
+    ensures some { IfSome result (λ p. item.now ≡ Packet p.0 p.1.now) }
+    ensures none { IfNone result ((input : ℕ) → packet_at input item.now ≡ None) }
 {
     match item {
-        Item::Packet { input: of, bytes } if *of == input => Some(bytes.as_slice()),
+        Item::Packet { input, bytes } => Some((*input, bytes.as_slice())),
         _ => None,
     }
 }
 
-/// The packets of an input, in order of arrival.
-fn packets<'a>(alloc: Global, items: &[Item<'a>], input: u8) -> Result<Vec<&'a [u8]>, NoMemory>
-    ensures { IfOk result (λ made. map (λ p. p.now) made.items ≡ packets_of input items.now) }
+/// A list without packets for each input.
+fn no_packets<'a>(alloc: Global, inputs: u8) -> Result<Vec<Packets<'a>>, NoMemory>
+    ensures { IfOk result (λ made.
+        HavePackets (λ list. map (λ p. p.now) list.items) inputs [] made.items) }
 {
     let mut made = Vec::new(alloc);
+    for _ in 0..inputs {
+        made.push(Vec::new(alloc))?;
+    }
+    Ok(made)
+}
+
+/// The packets of each input.
+fn sort_packets<'a>(
+    alloc: Global,
+    inputs: u8,
+    items: &[Item<'a>],
+) -> Result<Vec<Packets<'a>>, NoMemory>
+    requires { All (IsItemThere inputs) items.now }
+    ensures { IfOk result (λ made.
+        HavePackets (λ list. map (λ p. p.now) list.items) inputs items.now made.items) }
+{
+    let mut made = no_packets(alloc, inputs)?;
     for item in items {
-        if let Some(packet) = packet_at(item, input) {
-            made.push(packet)?;
+        if let Some((input, packet)) = packet_of(item) {
+            made[input as usize].push(packet)?;
         }
     }
     Ok(made)
@@ -47,13 +71,15 @@ pub(crate) fn tabulate(
     items: &[Item],
     ticks: u64,
 ) -> Result<BlockTable, NoMemory>
-    requires { ticks ≤ SESSION_TICKS }
+    requires few { ticks ≤ SESSION_TICKS }
+    requires there { All (IsItemThere (length device.now.inputs)) items.now }
     ensures { IfOk result (λ made. made ≡ table_of device.now items.now ticks) }
 {
+    let packets = sort_packets(alloc, device.inputs(), items)?;
     let mut made = BlockTable::new(alloc);
     for input in 0..device.inputs() {
-        let packets = packets(alloc, items, input)?;
-        made.push(blocks_of_packets(alloc, device, input, ticks, &packets)?)?;
+        let packets = &packets[input as usize];
+        made.push(blocks_of_packets(alloc, device, input, ticks, packets)?)?;
     }
     Ok(made)
 }
