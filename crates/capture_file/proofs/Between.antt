@@ -23,7 +23,7 @@ use Rattle.capture_file.specs.Items.{end_text}
 use Rattle.capture_file.specs.Records.{claim_at, records_from}
 use Rattle.capture_file.specs.Result.{bytes_of, result_magic, result_text, FitsHistory}
 use Rattle.capture_file.specs.Parts.{between_bytes, bytes_at, claim_bytes, claim_front}
-use Rattle.capture_file.specs.Parts.{woven_bytes, AreHeld, AreLeft}
+use Rattle.capture_file.specs.Parts.{AreHeld, AreLeft}
 use Rattle.capture_file.proofs.ResultLaws.{claim_joined, length-claim}
 use Rattle.capture_file.proofs.PartLaws.{between_same, bytes_more, range_more, whole_left}
 use Rattle.capture_file.proofs.PartLaws.{whole_text}
@@ -102,6 +102,10 @@ claim_is claim_of is (suc n) a k le lt =
     (λ less. claim_is claim_of is n (a + 1) k (omega (arith, less)) (omega (arith, lt)))
 
 -- ---- the whole text
+
+-- the record of claim k, behind what stands between it and the claim before it
+abbrev pub woven_bytes : (ℕ → ClaimItem) → List JournalCall → List ReplyItem → ℕ → List ℕ
+woven_bytes claim_of calls replies k = between_bytes k calls replies ++ claim_bytes (claim_of k)
 
 -- the text up to a number of claims
 woven_part : (claim_of : ℕ → ClaimItem) (n : ℕ) (calls : List JournalCall)

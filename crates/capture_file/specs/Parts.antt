@@ -52,10 +52,6 @@ abbrev pub range_bytes : ℕ → ℕ → List JournalCall → List ReplyItem →
 range_bytes from count calls replies claims =
     flat_map bytes_of (records_from (history_of claims calls replies) from count)
 
--- the bytes of a claim's record behind what stands between it and the claim before it
-abbrev pub woven_bytes : (ℕ → ClaimItem) → List JournalCall → List ReplyItem → ℕ → List ℕ
-woven_bytes claim_of calls replies k = between_bytes k calls replies ++ claim_bytes (claim_of k)
-
 -- what was said fits its fields
 abbrev pub HoldsSaid : Said → Type 0
 HoldsSaid (Plain reply) = HoldsReply reply
@@ -76,7 +72,7 @@ pub record AreLeft (number : ℕ) (calls : List JournalCall) (replies : List Rep
   pub calls_fit : AllByRecursion FitsCall calls
   pub replies_fit : AllByRecursion HoldsItem replies
 
--- and claims
+-- calls, replies and claims from a number of claims on, in order, each of which a record can hold
 pub record IsLeft (number : ℕ) (calls : List JournalCall) (replies : List ReplyItem)
     (claims : List ClaimItem) : Type 0 where
   pub between : AreLeft number calls replies
@@ -89,7 +85,7 @@ pub record AreHeld (number : ℕ) (calls : List JournalCall) (replies : List Rep
   pub later_calls : IsFromOn (λ c. c.at) number calls calls_held
   pub later_replies : IsFromOn (λ r. r.stamp.claims) number replies replies_held
 
--- and the claims
+-- what is held back: the calls, replies and claims from a number of claims on
 pub record IsHeld (number : ℕ) (calls : List JournalCall) (replies : List ReplyItem)
     (claims : List ClaimItem) (calls_held : List JournalCall) (replies_held : List ReplyItem)
     (claims_held : List ClaimItem) : Type 0 where

@@ -14,6 +14,11 @@ abbrev pub IfFault : {F : Type 0} → Or F → (F → Type 0) → Type 0
 IfFault (Fault fault) P = P fault
 IfFault NoMemory P = Unit {0}
 
+-- what is said where memory ran out; nothing is said of a fault
+abbrev pub IfNoMemory : {F : Type 0} → Or F → Type 0 → Type 0
+IfNoMemory (Fault fault) P = Unit {0}
+IfNoMemory NoMemory P = P
+
 -- a record was judged rightly, by what it does or by its fault
 abbrev pub IsJudged : {S F : Type 0} → (Result S F → Type 0) → Result S (Or F) → Type 0
 IsJudged Is (Ok step) = Is (Ok step)

@@ -9,7 +9,7 @@ ghost use Rattle.capture_file.specs.Items.{end_text};
 ghost use Rattle.capture_file.specs.Parts.{AreLeft, between_bytes, claim_front};
 ghost use Rattle.capture_file.specs.Tags.{claim_tag};
 
-use crate::result::push_between;
+use crate::result::{CLAIM_NUMBER_LEN, push_between};
 use crate::{JournalCall, ReplyItem, tags};
 use byteorder::{BigEndian, ByteOrder};
 use io_caps::{Bytes, ListOf, NoMemory};
@@ -21,8 +21,8 @@ pub const CLAIM_HEAD_LEN: usize = 13;
 const _: () = prove!(CLAIM_HEAD_LEN == 13);
 
 /// What stands between the claims of a result: the records of the calls and the replies at each of
-/// so many numbers of claims, from 0 on. It takes time in proportion to what is written and to the
-/// numbers.
+/// so many numbers of claims, from 0 on. What stands at further numbers is left out. It takes time
+/// in proportion to what is written and to the numbers.
 pub fn write_between(
     alloc: Global,
     calls: &[JournalCall],
@@ -56,11 +56,11 @@ fn write_flags(out: &mut [u8], found: &[bool])
 
 /// Writes the front of a claim's record up to its flags.
 #[tactic(auto, unfolding(exact_text::specs::Forms::number_text))]
-fn write_head(out: &mut [u8], body_len: u32, k: u64)
+fn write_claim_head(out: &mut [u8], body_len: u32, k: u64)
     requires { length out.old ≡ CLAIM_HEAD_LEN }
     ensures { out.new ≡ claim_tag ∷ (big_bytes 4 body_len ++ number_text 8 k) }
 {
-    let (start, number) = out.split_at_mut(5);
+    let (start, number) = out.split_at_mut(CLAIM_HEAD_LEN - CLAIM_NUMBER_LEN);
     let (tag, len) = start.split_at_mut(1);
     tag[0] = tags::CLAIM;
     BigEndian::write_u32(len, body_len);
@@ -74,9 +74,9 @@ pub fn write_claim_front(out: &mut [u8], k: u64, found: &[bool], packet_len: usi
     requires short { length found.now + packet_len + 8 < 2 ^ 32 }
     ensures { out.new ≡ claim_front k found.now packet_len }
 {
-    let body_len = found.len() + packet_len + 8;
+    let body_len = found.len() + packet_len + CLAIM_NUMBER_LEN;
     let (head, flags) = out.split_at_mut(CLAIM_HEAD_LEN);
-    write_head(head, body_len as u32, k);
+    write_claim_head(head, body_len as u32, k);
     write_flags(flags, found);
 }
 

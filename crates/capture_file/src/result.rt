@@ -1,6 +1,6 @@
 //! How a history is written as a result.
 
-ghost use Rattle.std.specs.Prelude.{◌≡◌, ◌++◌, [], ◌+◌, ◌-◌, ◌<◌, ◌≤◌, ◌^◌, IfOk, OnOk, length};
+ghost use Rattle.std.specs.Prelude.{◌≡◌, ◌++◌, [], ◌+◌, ◌-◌, ◌≤◌, IfOk, OnOk};
 ghost use Rattle.std.specs.List.{AllByRecursion, flat_map};
 ghost use Rattle.exact_text.specs.Spellings.{Grows};
 ghost use Rattle.capture_file.specs.Device.{flag};
@@ -20,7 +20,9 @@ use io_caps::{Device, NoMemory};
 use std::alloc::Global;
 
 /// The bytes of a claim's number.
-const CLAIM_NUMBER_LEN: usize = 8;
+pub(crate) const CLAIM_NUMBER_LEN: usize = 8;
+
+const _: () = prove!(CLAIM_NUMBER_LEN == 8);
 
 #[tactic(auto, using(exact_text::proofs::Growth::growth), unfolding(crate::specs::Device::flag))]
 fn push_flags(out: &mut Vec<u8>, flags: &[bool]) -> Result<(), NoMemory>

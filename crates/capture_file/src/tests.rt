@@ -13,9 +13,9 @@ use crate::replies::{push_plain_reply, push_refusal};
 use crate::result::reply_body;
 use crate::{
     Activation, ActiveView, CLAIM_HEAD_LEN, CaptureFault, CaptureKind, ClaimItem, ClaimItems,
-    History, Item, Journal, JournalCall, PendingItem, PendingItems, RESULT_MAGIC, Refusal, Reply,
-    ReplyItem, ReplyItems, Request, ResultItem, Said, Stamp, When, end_record, read_capture,
-    write_between, write_claim_front, write_result,
+    History, Item, Journal, JournalCall, RESULT_MAGIC, Refusal, Reply, ReplyItem, ReplyItems,
+    Request, ResultItem, Said, Stamp, When, end_record, read_capture, write_between,
+    write_claim_front, write_result,
 };
 use io_caps::{Bytes, Flags, NoMemory, Or, TryCopy};
 use map_entry::{Cell, Row, RowFault, Rows};
