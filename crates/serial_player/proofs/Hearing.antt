@@ -25,7 +25,8 @@ use Rattle.plain_book.specs.Desk.{DeskParts, desk_parts}
 use Rattle.plain_book.specs.declared.requests.Request.{Request}
 use Rattle.plain_book.specs.declared.requests.Stamp.{Stamp}
 use Rattle.serial_player.specs.Asks.ClientAsk.{Asked, Heard}
-use Rattle.serial_player.specs.Run.{AreAll, AreAnswered, AreNew, HasAsked, HasPlayed, Hears, IsHeld}
+use Rattle.serial_player.specs.Run.{AreAll, AreAnswered, AreNew, HasAsked, HasPlayed, Hears}
+use Rattle.serial_player.specs.Run.{IsWritable}
 use Rattle.serial_player.specs.Run.{IsOnlyStream, IsPlayed, KeepsRun, floor_at, parts_of, stand_at}
 use Rattle.serial_player.specs.Serial.{Played, Step, play_all, play_from, play_step, played}
 use Rattle.serial_player.specs.Serial.{steps_by, steps_in, steps_of}
@@ -68,7 +69,8 @@ quiet_all client old new is all =
 quiet_run : (client : ℕ) (old new : Run) → IsQuiet client old new → KeepsRun old new
 quiet_run client old new is s run =
     told_run s old new run is.desk is.rows
-    (subst (AllByRecursion IsHeld) (sym is.told) run.held) (quiet_all client old new is run.clients)
+    (subst (AllByRecursion IsWritable) (sym is.told) run.held)
+    (quiet_all client old new is run.clients)
 
 -- a piece came, or nothing more is answered
 pub heard_quietly : (client : ℕ) (piece : List ℕ) (old new : Run) → IsQuiet client old new

@@ -35,20 +35,22 @@ use Rattle.interleavings.proofs.Telling.{told_replies}
 use Rattle.interleavings.proofs.Whole.{claims_legal}
 use Rattle.serial_player.specs.Asks.{asked_by, says_by}
 use Rattle.serial_player.specs.Legal.{IsLegalClosed}
-use Rattle.serial_player.specs.Run.{IsHeld, IsPlayed, IsRun, begun}
+use Rattle.serial_player.specs.Run.{IsWritable, IsPlayed, IsRun, begun}
 use Rattle.serial_player.specs.Serial.{Played, asks_of, blocks_of, history_by, packets_in, play_all}
 use Rattle.serial_player.specs.Serial.{played, serial_history, steps_of}
 use Rattle.serial_player.specs.Streams.{Turn}
-use Rattle.serial_player.specs.Table.{table_of, HasTick}
+use Rattle.serial_player.specs.Table.{table_of, HasTick, BlockTable}
 use Rattle.serial_player.specs.declared.player.Run.{Run}
-use Rattle.serial_player.proofs.Tables.{table_has}
+use Rattle.serial_player.proofs.Tables.{table_has, table_is}
 use Rattle.serial_player.proofs.Ticks.{begun_all}
 use Rattle.serial_player.proofs.Told.{are_given, given_by, said_all, stamps_rise}
 use Rattle.serial_player.proofs.Wholes.{history_fits, steps_fit}
 use Rattle.serial_player.specs.Claim.{AreRuling, HasRow, HaveRows, claim_by}
-use Rattle.serial_player.specs.Performed.{IsPerformed, performed_history}
-use Rattle.serial_player.specs.declared.player.Performance.{Performance}
+use Rattle.serial_player.specs.HistoryParts.{AreHistoryParts, history_by_parts}
+use Rattle.serial_player.specs.declared.player.HistoryParts.{HistoryParts}
 use Rattle.serial_player.proofs.PacketLengths.{closed_fits}
+use Rattle.serial_player.specs.declared.claims.AllClaims.{AllClaims}
+use Rattle.serial_player.specs.Made.{AreReady}
 
 bounded : (a b c d : ℕ) → a ≤ b → c ≤ d → a * c ≤ b * d
 bounded a b c d x y = omega (arith, mul-le-mul_right c x, mul-le-mul_left b y)
@@ -133,25 +135,25 @@ claims_fit s journal blocks count rows is few are i d within =
     (closed_fits s entries blocks i row is.device (omega (arith, lt, few)) rule fit)
 
 -- the history that is made of them is the serial one
-made_is : (c : CaptureParts) (p : Performance) (q : Played) → packets_in c ≡ q.claims
-    → p.journal ≡ q.journal → p.replies ≡ in_order q.told → performed_history c p ≡ history_by c q
+made_is : (c : CaptureParts) (p : HistoryParts) (q : Played) → packets_in c ≡ q.claims
+    → p.journal ≡ q.journal → p.replies ≡ in_order q.told → history_by_parts c p ≡ history_by c q
 made_is c p q count journal replies =
     rw (count, journal, replies) refl
 
 -- where all records were done
-pub performed_is : (c : CaptureParts) (run : Run) (p : Performance) → IsCapture c
+pub parts_are : (c : CaptureParts) (run : Run) (p : HistoryParts) → IsCapture c
     → IsRun c.setup run → IsPlayed c.setup c.items run → run.desk.claims ≡ packets_in c
     → p.table ≡ table_of c.setup.device c.items c.ticks → p.rows ≡ run.rows
-    → p.journal ≡ run.desk.journal → p.replies ≡ in_order run.replies → IsPerformed c p
+    → p.journal ≡ run.desk.journal → p.replies ≡ in_order run.replies → AreHistoryParts c p
 unfolding serial_history
-performed_is c run p capture is played count table rows journal replies =
+parts_are c run p capture is played count table rows journal replies =
     let s = c.setup in
     let blocks = blocks_of c in
     let steps = steps_of played.turns in
     let q : Played = play_all s steps in
     let has = played.played in
     let inputs = length s.device.inputs in
-    let made : performed_history c p ≡ history_by c q =
+    let made : history_by_parts c p ≡ history_by c q =
     made_is c p q (sym count ∙ has.claims) (journal ∙ has.journal)
     (replies ∙ ap in_order has.told) in
     let ruled : AreRuling s (entries_of s p.journal) (packets_in c) p.rows =
@@ -174,8 +176,8 @@ performed_is c run p capture is played count table rows journal replies =
           let there : AllByRecursion (IsItemThere inputs) (map (λ t. t.item) played.turns) =
           subst (AllByRecursion (IsItemThere inputs)) (sym played.items_are)
           (recursion_from_All (IsItemThere inputs) c.items capture.there) in
-          let held : AllByRecursion IsHeld q.told =
-          subst (AllByRecursion IsHeld) has.told is.held in
+          let held : AllByRecursion IsWritable q.told =
+          subst (AllByRecursion IsWritable) has.told is.held in
           let short : q.claims < 256 ^ 8 = rw (sym has.claims ∙ count) few in
           let claims : All (FitsClaim s.device)
           (map (closed_claim s q.journal blocks) (range_with_len 0 q.claims)) =
@@ -188,18 +190,48 @@ performed_is c run p capture is played count table rows journal replies =
       rows = ruled;
     }
 
--- what is made of it by the table and the rows
-pub history_made : (c : CaptureParts) (p : Performance) (claims : List ClaimItem)
-    → 0 < length c.setup.device.outputs → IsPerformed c p
-    → ((entries : List Entry) (blocks : Blocks) → HaveRows c.setup entries 0 p.rows
-    → ((k : ℕ) → k < length p.rows → HasTick c.setup p.table blocks k)
-    → claims ≡ map (claim_by c.setup entries blocks) (range_with_len 0 (length p.rows)))
-    → history_of claims p.journal p.replies ≡ performed_history c p
-history_made c p claims some is value =
+-- the claims can be made
+pub are_ready : (c : CaptureParts) (p : HistoryParts) (claims : AllClaims) → IsCapture c
+    → AreHistoryParts c p → claims.setup.now ≡ c.setup → claims.rows.now ≡ p.rows
+    → claims.table.now ≡ p.table → AreReady claims
+are_ready c p claims capture is setup rows table = record {
+  claims = omega (
+    arith,
+    ap length rows,
+    is.rows.long,
+    capture.work,
+    few_claims c capture capture.setup.device.bounds.few_outputs,
+  );
+  device = rw setup capture.setup.device;
+  rows = rw (setup, rows) is.rows.fit;
+  table = rw (setup, table ∙ is.table) (table_is c.setup.device c.items c.ticks);
+}
+
+-- and are those of the serial history
+pub all_made : (c : CaptureParts) (p : HistoryParts) (rows : List (List Cell)) (table : BlockTable)
+    → IsCapture c → AreHistoryParts c p → rows ≡ p.rows → table ≡ p.table
+    → HaveRows c.setup (entries_of c.setup p.journal) 0 rows
+    × ((k : ℕ) → k < length rows → HasTick c.setup table (blocks_of c) k)
+all_made c p rows table capture is same table_same = (
+  subst (HaveRows c.setup (entries_of c.setup p.journal) 0) (sym same) is.rows.rule,
+  λ k lt.
+      rw (table_same ∙ is.table)
+      (table_has c.setup c.items c.ticks k (has_outputs c.setup capture.setup)
+      (omega (arith, lt, ap length same, is.rows.long))),
+)
+
+-- so is the history that is made of them
+pub history_made : (c : CaptureParts) (p : HistoryParts) (rows : List (List Cell))
+    (table : BlockTable) (claims : List ClaimItem) → IsCapture c → AreHistoryParts c p
+    → rows ≡ p.rows → table ≡ p.table
+    → ((entries : List Entry) (blocks : Blocks) → HaveRows c.setup entries 0 rows
+    × ((k : ℕ) → k < length rows → HasTick c.setup table blocks k)
+    → claims ≡ map (claim_by c.setup entries blocks) (range_with_len 0 (length rows)))
+    → history_of claims p.journal p.replies ≡ history_by_parts c p
+history_made c p rows table claims capture is same table_same value =
     let s = c.setup in
-    let has : (k : ℕ) → k < length p.rows → HasTick s p.table (blocks_of c) k =
-    λ k lt. rw is.table (table_has s c.items c.ticks k some (omega (arith, lt, is.rows.long))) in
     ap (λ (xs : List ClaimItem). history_of xs p.journal p.replies)
-    (value (entries_of s p.journal) (blocks_of c) is.rows.rule has
+    (value (entries_of s p.journal) (blocks_of c)
+    (all_made c p rows table capture is same table_same)
     ∙ ap (λ (m : ℕ). map (closed_claim s p.journal (blocks_of c)) (range_with_len 0 m))
-    is.rows.long)
+    (ap length same ∙ is.rows.long))

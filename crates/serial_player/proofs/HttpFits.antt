@@ -2,9 +2,9 @@
 use Rattle.std.proofs.Common.{◌≡◌, ℕ, zero, suc, ◌+◌, ◌^◌, ◌<◌, ◌≤◌, true, false, eqb, List, []}
 use Rattle.std.proofs.Common.{◌∷◌, length, map, Option, Some, None, inl, inr, refl, sym, ap, subst}
 use Rattle.std.proofs.Common.{◌∙◌, arith}
-use Rattle.std.specs.Prelude.{Ok, decimal, slice_get, nat_lt, option_map, option_and_then}
+use Rattle.std.specs.Prelude.{Ok, decimal, nat_lt, option_and_then}
 use Rattle.std.specs.List.{AllByRecursion}
-use Rattle.std.specs.Option.{option_map_or, option_or, option_to_list}
+use Rattle.std.specs.Option.{option_to_list}
 use Rattle.std.specs.Result.{result_ok}
 use Rattle.std.proofs.lemmas.Bool.{cases_Bool, lt-ltb, ltb-true, ne_eqb}
 use Rattle.std.proofs.lemmas.List.{length-append}
@@ -51,6 +51,8 @@ use Rattle.capture_file.specs.Requests.{action, cell, change, channels_rise, out
 use Rattle.capture_file.specs.Requests.{rises_from, time}
 use Rattle.capture_file.proofs.Order.{first_rises, ordered_action, ordered_channels, rises_rest}
 use Rattle.serial_player.proofs.Tallies.{id_fits}
+use Rattle.serial_player.proofs.Refusals.{output_channels}
+use Rattle.list_laws.proofs.Options.{option_map-None, option_or-first, option_or-second}
 
 -- ---- an action
 
@@ -123,31 +125,18 @@ none_bad n (c ∷ changes) e = elim (cases_Bool (nat_lt c.channel n)) [
   | inr past ↦ let some : Some c ≡ None = rw past at e in absurd cc
 ]
 
-mapped_none : {X Y : Type 0} (f : X → Y) (o : Option X) → option_map f o ≡ None → o ≡ None
-mapped_none f None e = refl
-mapped_none f (Some x) e = absurd cc
-
-none_parts : {X : Type 0} (a b : Option X) → option_or a b ≡ None → (a ≡ None) × (b ≡ None)
-none_parts None b e = (refl, e)
-none_parts (Some x) b e = absurd cc
-
 -- what the book finds no fault with has channels of its outputs alone
 channels_there : (d : DeviceParts) (a : List OutputChangeParts) → bad_channel_by d a ≡ None
     → AllByRecursion (λ c. AreBelow (channels_of_output d c.output) c.changes) a
 channels_there d [] e = tt
 channels_there d (c ∷ a) e =
-    let parts = none_parts (bad_channel_at d c) (bad_channel_by d a) e in (
+    let first = option_or-first (bad_channel_at d c) (bad_channel_by d a) e in
+    let others = option_or-second (bad_channel_at d c) (bad_channel_by d a) e in (
       none_bad (channels_of_output d c.output) c.changes
-          (mapped_none (λ change. BadChannel c.output change.channel)
-          (bad_channel_of (channels_of_output d c.output) c.changes) parts.0),
-      channels_there d a parts.1,
+          (option_map-None (λ change. BadChannel c.output change.channel)
+          (bad_channel_of (channels_of_output d c.output) c.changes) first),
+      channels_there d a others,
     )
-
-channels_few : (outputs : List Output) (k : ℕ) → AllByRecursion (λ o. AreChannels o.labels) outputs
-    → option_map_or (λ o. length o.labels) (slice_get outputs k) 0 ≤ 64
-channels_few [] k all = omega arith
-channels_few (o ∷ outputs) zero all = omega (arith, all.0.1)
-channels_few (o ∷ outputs) (suc k) all = channels_few outputs k all.1
 
 -- an output's part of an action that was read
 record IsPart (d : DeviceParts) (c : OutputChangeParts) : Type 0 where
@@ -171,7 +160,7 @@ part_fits : (d : DeviceParts) (c : OutputChangeParts) → IsDevice d → IsPart 
     → AreBelow (channels_of_output d c.output) c.changes → output_change.Fits c
 unfolding output_change
 part_fits d c is part below =
-    let most = channels_few d.outputs c.output
+    let most = output_channels d.outputs c.output
     (recursion_from_All (λ (o : Output). AreChannels o.labels) d.outputs is.streams.outputs) in
     let up : channels_rise c ≡ true = ordered_channels c part.up in
     let few = few_rising (channels_of_output d c.output) 0 c.changes (omega arith) below up in

@@ -51,6 +51,7 @@ use Rattle.capture_file.specs.Result.{widths_of}
 use Rattle.serial_player.proofs.Fitting.{IsFitCall, latest_fits, pending_fits, request_parts}
 use Rattle.serial_player.proofs.Fitting.{rows_fit, filter_less}
 use Rattle.serial_player.proofs.Tallies.{have_places, next_few, schedules, tick_fits}
+use Rattle.list_laws.proofs.Options.{option_or-first, option_or-second}
 
 unflip : (b : Bool) → not b ≡ false → b ≡ true
 unflip true e = refl
@@ -215,19 +216,17 @@ known d c none = elim (cases_Bool (nat_lt c.output (length d.outputs))) [
   | inr apart ↦ let e : Some (Unknown c.output) ≡ None = rw apart at none in absurd cc
 ]
 
-none_first : {X : Type 0} (a b : Option X) → option_or a b ≡ None → (a ≡ None) × (b ≡ None)
-none_first None b e = (refl, e)
-none_first (Some x) b e = absurd cc
-
 all_known : (d : DeviceParts) (a : List OutputChangeParts) → unknown_by d a ≡ None
     → AllByRecursion IsByteChange a
     → AllByRecursion (λ c. IsByteChange c × (c.output < length d.outputs)) a
 all_known d [] none low = tt
 all_known d (c ∷ a) none low =
-    let parts = none_first (unknown_at d c) (unknown_by d a) none in
-    ((low.0, known d c parts.0), all_known d a parts.1 low.1)
+    let first = option_or-first (unknown_at d c) (unknown_by d a) none in
+    let others = option_or-second (unknown_at d c) (unknown_by d a) none in
+    ((low.0, known d c first), all_known d a others low.1)
 
-output_channels : (outputs : List Output) (k : ℕ)
+-- an output has at most 64 channels
+pub output_channels : (outputs : List Output) (k : ℕ)
     → AllByRecursion (λ o. AreChannels o.labels) outputs
     → option_map_or (λ o. length o.labels) (slice_get outputs k) 0 ≤ 64
 output_channels [] k all = omega arith

@@ -33,7 +33,7 @@ use Rattle.api_routes.specs.Plan.{request_asked}
 use Rattle.api_routes.specs.declared.serve.Answered.TheVariants.{At, Still}
 use Rattle.serial_player.specs.Asks.{ClientAsk, asked_by, says_by}
 use Rattle.serial_player.specs.Asks.ClientAsk.{Asked, Heard}
-use Rattle.serial_player.specs.Run.{AreAll, HasAsked, HasPlayed, IsHeld, IsShort, floor_at}
+use Rattle.serial_player.specs.Run.{AreAll, HasAsked, HasPlayed, IsWritable, IsShort, floor_at}
 use Rattle.serial_player.specs.Serial.{Played, answer_to, floor_of, play_step, told_at, told_by}
 use Rattle.serial_player.specs.Serial.Step.{Asks}
 use Rattle.serial_player.specs.declared.clients.Clients.{Clients}
@@ -44,9 +44,9 @@ use Rattle.serial_player.proofs.Told.{floor_next, floor_same}
 -- one reply more
 told_one : (old new : List ReplyItem) (client : ℕ) (place : Stamp) (said : Said)
     → new ≡ old ++ reply_item client place said ∷ [] → place.calls < 256 ^ 8 → IsShort said
-    → AllByRecursion IsHeld old → AllByRecursion IsHeld new
+    → AllByRecursion IsWritable old → AllByRecursion IsWritable new
 told_one old new client place said told few short held =
-    rw told (all_append IsHeld old (reply_item client place said ∷ []) held ((few, short), tt))
+    rw told (all_append IsWritable old (reply_item client place said ∷ []) held ((few, short), tt))
 
 -- ---- where the book was asked
 

@@ -7,9 +7,9 @@ use Rattle.std.specs.Io.KnownBytes.{Appends}
 use Rattle.list_laws.proofs.Ranges.{flat_map_same}
 use Rattle.io_caps.specs.declared.device.DeviceParts.{DeviceParts}
 use Rattle.capture_file.specs.Items.{end_text}
-use Rattle.capture_file.specs.Parts.{between_bytes, claim_bytes, woven_bytes}
+use Rattle.capture_file.specs.Parts.{between_bytes, claim_bytes}
 use Rattle.capture_file.specs.Result.{result_magic, result_text}
-use Rattle.capture_file.proofs.Between.{woven_text}
+use Rattle.capture_file.proofs.Between.{woven_bytes, woven_text}
 use Rattle.capture_file.proofs.PartLaws.{shows_all}
 use Rattle.capture_file.specs.Capture.{CaptureParts, IsCapture}
 use Rattle.plain_book.specs.declared.calls.JournalCall.{JournalCall}
@@ -17,15 +17,15 @@ use Rattle.plain_book.specs.declared.history.ClaimItem.{ClaimItem}
 use Rattle.plain_book.specs.declared.history.ReplyItem.{ReplyItem}
 use Rattle.plain_book.specs.History.{history_of}
 use Rattle.plain_book.specs.Journal.{entries_of}
-use Rattle.plain_book.proofs.Keeping.{has_outputs}
-use Rattle.serial_player.specs.Written.{piece_of, text_of, IsPrepared, IsWritten, IsWrittenInPart}
+use Rattle.serial_player.specs.Written.{record_behind, text_by, IsPrepared, IsWritten}
+use Rattle.serial_player.specs.Written.{IsWrittenInPart}
 use Rattle.serial_player.specs.Table.{BlockTable, HasTick}
 use Rattle.serial_player.specs.Claim.{HaveRows, claim_by}
 use Rattle.serial_player.specs.declared.writing.Prepared.{Prepared}
 use Rattle.serial_player.specs.Serial.{blocks_of, packets_in}
 use Rattle.serial_player.proofs.Beginning.{closed_keeps}
-use Rattle.serial_player.specs.Performed.{performed_history}
-use Rattle.serial_player.proofs.Tables.{table_has}
+use Rattle.serial_player.specs.HistoryParts.{history_by_parts}
+use Rattle.serial_player.proofs.History.{all_made}
 use Rattle.packet_writer.specs.Packet.{Blocks}
 use Rattle.map_entry.specs.declared.cell.Cell.{Cell}
 use Rattle.map_entry.specs.declared.entry.Entry.{Entry}
@@ -34,16 +34,16 @@ use Rattle.chan_io.specs.Streams.{TakesPrefix, TellsAlike}
 pub text_is : (d : DeviceParts) (claim_of : ℕ → ClaimItem) (n : ℕ) (calls : List JournalCall)
     (replies : List ReplyItem) (between : List (List ℕ)) → ((k : ℕ) → (claim_of k).k ≡ k)
     → between ≡ map (λ number. between_bytes number calls replies) (range_with_len 0 (n + 1))
-    → text_of between claim_of n
+    → text_by between claim_of n
     ≡ result_text d (history_of (map claim_of (range_with_len 0 n)) calls replies)
 text_is d claim_of n calls replies between numbered is =
     let of = λ (number : ℕ). between_bytes number calls replies in
     let at : (k : ℕ) → k < n + 1 → get_or between k [] ≡ of k = λ k lt.
     ap (λ (xs : List (List ℕ)). get_or xs k []) is
     ∙ get_or-map-range_with_len of 0 (n + 1) k k [] lt (zero-add k) in
-    let pieces = flat_map (piece_of between claim_of) (range_with_len 0 n) in
+    let pieces = flat_map (record_behind between claim_of) (range_with_len 0 n) in
     let same : pieces ≡ flat_map (woven_bytes claim_of calls replies) (range_with_len 0 n) =
-    flat_map_same (piece_of between claim_of) (woven_bytes claim_of calls replies) 0 n
+    flat_map_same (record_behind between claim_of) (woven_bytes claim_of calls replies) 0 n
     (λ k from to. ap (λ (z : List ℕ). z ++ claim_bytes (claim_of k)) (at k (omega (arith, to)))) in
     ap (λ (z : List ℕ). result_magic ++ (z ++ (get_or between n [] ++ end_text))) same
     ∙ ap (λ (z : List ℕ). result_magic
@@ -56,58 +56,44 @@ text_is d claim_of n calls replies between numbered is =
 -- the text that is written from what was prepared
 abbrev prepared_text : CaptureParts → List JournalCall → List (List ℕ) → ℕ → List ℕ
 prepared_text c journal between n =
-    text_of between (claim_by c.setup (entries_of c.setup journal) (blocks_of c)) n
+    text_by between (claim_by c.setup (entries_of c.setup journal) (blocks_of c)) n
 
 -- it is the result of the serial history
 serial_text : (c : CaptureParts) (p : Prepared) → IsPrepared c p
-    → prepared_text c p.performance.journal p.between (length p.performance.rows)
-    ≡ result_text c.setup.device (performed_history c p.performance)
+    → prepared_text c p.parts.journal p.between (length p.parts.rows)
+    ≡ result_text c.setup.device (history_by_parts c p.parts)
 serial_text c p is =
-    let journal = p.performance.journal in
+    let journal = p.parts.journal in
     let claims = claim_by c.setup (entries_of c.setup journal) (blocks_of c) in
-    ap (text_of p.between claims) is.performed.rows.long
-    ∙ text_is c.setup.device claims (packets_in c) journal p.performance.replies p.between
+    ap (text_by p.between claims) is.parts_are.rows.long
+    ∙ text_is c.setup.device claims (packets_in c) journal p.parts.replies p.between
     (λ k. refl) is.between
-
--- what is asked of the rows and the table
-ruled : (c : CaptureParts) (p : Prepared) (rows : List (List Cell)) → IsPrepared c p
-    → rows ≡ p.performance.rows
-    → HaveRows c.setup (entries_of c.setup p.performance.journal) 0 rows
-ruled c p rows is same =
-    subst (HaveRows c.setup (entries_of c.setup p.performance.journal) 0) (sym same)
-    is.performed.rows.rule
-
-tabled : (c : CaptureParts) (p : Prepared) (rows : List (List Cell)) (table : BlockTable)
-    → IsCapture c → IsPrepared c p → rows ≡ p.performance.rows → table ≡ p.performance.table
-    → (k : ℕ) → k < length rows → HasTick c.setup table (blocks_of c) k
-tabled c p rows table capture is same table_same k lt =
-    rw (table_same ∙ is.performed.table)
-    (table_has c.setup c.items c.ticks k (has_outputs c.setup capture.setup)
-    (omega (arith, lt, ap length same, is.performed.rows.long)))
 
 -- a sink took all of it
 pub written_is : (c : CaptureParts) (p : Prepared) (rows : List (List Cell)) (table : BlockTable)
     (between : List (List ℕ)) (old new : Option (List ℕ)) → IsCapture c → IsPrepared c p
-    → rows ≡ p.performance.rows → table ≡ p.performance.table → between ≡ p.between
+    → rows ≡ p.parts.rows → table ≡ p.parts.table → between ≡ p.between
     → ((entries : List Entry) (blocks : Blocks) → HaveRows c.setup entries 0 rows
-    → ((k : ℕ) → k < length rows → HasTick c.setup table blocks k)
+    × ((k : ℕ) → k < length rows → HasTick c.setup table blocks k)
     → TellsAlike old new
-    × Appends old new (text_of between (claim_by c.setup entries blocks) (length rows)))
+    × Appends old new (text_by between (claim_by c.setup entries blocks) (length rows)))
     → IsWritten c old new
 written_is c p rows table between old new capture is rows_same table_same between_same took =
-    let journal = p.performance.journal in
-    let told = took (entries_of c.setup journal) (blocks_of c) (ruled c p rows is rows_same)
-    (tabled c p rows table capture is rows_same table_same) in
+    let journal = p.parts.journal in
+    let told =
+    took (entries_of c.setup journal) (blocks_of c)
+    (all_made c p.parts rows table capture is.parts_are rows_same table_same) in
     let text = ap (λ (n : ℕ). prepared_text c journal between n) (ap length rows_same)
-    ∙ ap (λ (b : List (List ℕ)). prepared_text c journal b (length p.performance.rows)) between_same
+    ∙ ap (λ (b : List (List ℕ)). prepared_text c journal b (length p.parts.rows)) between_same
     ∙ serial_text c p is in
-    let serial = is.performed.serial in
+    let serial = is.parts_are.serial in
     record {
-      history = performed_history c p.performance;
+      history = history_by_parts c p.parts;
       serial = serial;
-      begun = closed_keeps c serial.turns (performed_history c p.performance) capture.setup
+      begun = closed_keeps c serial.turns (history_by_parts c p.parts) capture.setup
           serial.legal;
-      shows = shows_all (performed_history c p.performance) is.fits.whole;
+      fits = is.fits;
+      shows = shows_all (history_by_parts c p.parts) is.fits.whole;
       alike = told.0;
       took = subst (Appends old new) text told.1;
     }
@@ -115,24 +101,26 @@ written_is c p rows table between old new capture is rows_same table_same betwee
 -- or a front of it
 pub cut_short_is : (c : CaptureParts) (p : Prepared) (rows : List (List Cell)) (table : BlockTable)
     (between : List (List ℕ)) (old new : Option (List ℕ)) → IsCapture c → IsPrepared c p
-    → rows ≡ p.performance.rows → table ≡ p.performance.table → between ≡ p.between
+    → rows ≡ p.parts.rows → table ≡ p.parts.table → between ≡ p.between
     → ((entries : List Entry) (blocks : Blocks) → HaveRows c.setup entries 0 rows
-    → ((k : ℕ) → k < length rows → HasTick c.setup table blocks k)
-    → TakesPrefix old new (text_of between (claim_by c.setup entries blocks) (length rows)))
+    × ((k : ℕ) → k < length rows → HasTick c.setup table blocks k)
+    → TakesPrefix old new (text_by between (claim_by c.setup entries blocks) (length rows)))
     → IsWrittenInPart c old new
 cut_short_is c p rows table between old new capture is rows_same table_same between_same took =
-    let journal = p.performance.journal in
-    let told = took (entries_of c.setup journal) (blocks_of c) (ruled c p rows is rows_same)
-    (tabled c p rows table capture is rows_same table_same) in
+    let journal = p.parts.journal in
+    let told =
+    took (entries_of c.setup journal) (blocks_of c)
+    (all_made c p.parts rows table capture is.parts_are rows_same table_same) in
     let text = ap (λ (n : ℕ). prepared_text c journal between n) (ap length rows_same)
-    ∙ ap (λ (b : List (List ℕ)). prepared_text c journal b (length p.performance.rows)) between_same
+    ∙ ap (λ (b : List (List ℕ)). prepared_text c journal b (length p.parts.rows)) between_same
     ∙ serial_text c p is in
-    let serial = is.performed.serial in
+    let serial = is.parts_are.serial in
     record {
-      history = performed_history c p.performance;
+      history = history_by_parts c p.parts;
       serial = serial;
-      begun = closed_keeps c serial.turns (performed_history c p.performance) capture.setup
+      begun = closed_keeps c serial.turns (history_by_parts c p.parts) capture.setup
           serial.legal;
-      shows = shows_all (performed_history c p.performance) is.fits.whole;
+      fits = is.fits;
+      shows = shows_all (history_by_parts c p.parts) is.fits.whole;
       took = subst (TakesPrefix old new) text told;
     }

@@ -31,7 +31,7 @@ use Rattle.plain_book.proofs.Prefixes.{no_calls}
 use Rattle.plain_book.proofs.Steady.{claimed}
 use Rattle.serial_player.specs.Claim.{HaveRows, AreRuling, RowsFitClaims}
 use Rattle.serial_player.specs.Legal.{first_of_tick}
-use Rattle.serial_player.specs.Run.{AreAll, IsHeld, IsRun, begun, next_rows}
+use Rattle.serial_player.specs.Run.{AreAll, IsWritable, IsRun, begun, next_rows}
 use Rattle.serial_player.specs.declared.player.Run.{Run}
 use Rattle.serial_player.proofs.Ticks.{begun_least, begun_more, begun_none, begun_same, begun_whole}
 use Rattle.serial_player.proofs.Ticks.{rows_fit, rows_long, rows_rule}
@@ -142,7 +142,7 @@ journal_behind s journal client claims request =
 pub asked_run : (s : SetupParts) (old new : Run) (client : ℕ) (request : Request) → IsRun s old
     → new.desk.setup ≡ old.desk.setup → new.desk.claims ≡ old.desk.claims
     → new.desk.journal ≡ journal_behind s old.desk.journal client old.desk.claims request
-    → new.rows ≡ old.rows → AllByRecursion IsHeld new.replies → AreAll new.clients
+    → new.rows ≡ old.rows → AllByRecursion IsWritable new.replies → AreAll new.clients
     → IsRun s new
 asked_run s old new client request run setup same calls rows held all =
     let is = run.checked in
@@ -170,7 +170,7 @@ asked_run s old new client request run setup same calls rows held all =
 
 -- and where it isn't
 pub told_run : (s : SetupParts) (old new : Run) → IsRun s old → new.desk ≡ old.desk
-    → new.rows ≡ old.rows → AllByRecursion IsHeld new.replies → AreAll new.clients → IsRun s new
+    → new.rows ≡ old.rows → AllByRecursion IsWritable new.replies → AreAll new.clients → IsRun s new
 told_run s old new run desk rows held all = record {
   setup = ap (λ (d : DeskParts). d.setup) desk ∙ run.setup;
   checked = run.checked;

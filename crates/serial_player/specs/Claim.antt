@@ -34,5 +34,6 @@ pub record AreRuling (s : SetupParts) (entries : List Entry) (count : ℕ) (rows
 
 -- claim k by a list of entries, which found each block that its rows name and that is there
 abbrev pub claim_by : SetupParts → List Entry → Blocks → ℕ → ClaimItem
-claim_by s entries blocks k = let flags = closed_flags s entries blocks k in
+claim_by s entries blocks k =
+    let flags = closed_flags s entries blocks k in
     claim_item k flags (packet_by s entries blocks flags k)

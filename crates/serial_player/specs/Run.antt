@@ -51,23 +51,24 @@ abbrev pub IsShort : Said → Type 0
 IsShort (Plain reply) = Unit {0}
 IsShort (Http bytes) = length bytes + 18 < 256 ^ 4
 
--- the place of a reply, and what it says, fit the fields of a result
-abbrev pub IsHeld : ReplyItem → Type 0
-IsHeld r = (r.stamp.calls < 256 ^ 8) × IsShort r.said
+-- the calls of a reply's place fit 8 bytes, and a response is short enough for a record
+abbrev pub IsWritable : ReplyItem → Type 0
+IsWritable r = (r.stamp.calls < 256 ^ 8) × IsShort r.said
 
 -- there is a stream, and a place, for each client
 abbrev pub AreAll : Clients → Type 0
 AreAll c = (length c.streams.items ≡ CLIENTS) × (length c.floors.items ≡ CLIENTS)
 
 -- The calls are a legal journal, and a row is kept for each claim of all ticks that have begun,
--- which rules it by the calls so far. What clients were told fits the fields of a result.
+-- which rules it by the calls so far. The calls of each reply's place fit 8 bytes, and each
+-- response a record.
 pub record IsRun (s : SetupParts) (run : Run) : Type 0 where
   pub setup : run.desk.setup ≡ s
   pub checked : IsSetup s
   pub legal : IsLegalJournal s run.desk.claims run.desk.journal
   pub rows : AreRuling s (entries_of s run.desk.journal)
       (begun (length s.device.outputs) run.desk.claims) run.rows
-  pub held : AllByRecursion IsHeld run.replies
+  pub held : AllByRecursion IsWritable run.replies
   pub clients : AreAll run.clients
 
 -- ---- clients

@@ -1,156 +1,180 @@
 //! The claims of a history.
 
-ghost use Rattle.std.specs.Prelude.{◌≡◌, ◌≤◌, ◌<◌, ◌&&◌, Bool, IfOk, List, Some, is_some};
-ghost use Rattle.std.specs.Prelude.{slice_get, ℕ, length, map};
+ghost use Rattle.std.specs.Prelude.{◌≡◌, ◌<◌, ◌+◌, Bool, IfOk, List, length, map};
 ghost use Rattle.std.specs.List.{range_with_len};
-ghost use Rattle.io_caps.specs.Device.{IsDevice};
-ghost use Rattle.io_caps.specs.declared.limits.TheConstants.{TICKS_PAST_BASE};
-ghost use Rattle.map_entry.specs.Row.{channels_of_output};
+ghost use Rattle.capture_file.specs.Parts.{claim_bytes};
 ghost use Rattle.map_entry.specs.declared.entry.Entry.{Entry};
-ghost use Rattle.packet_writer.specs.Flags.{AreClosed, is_named};
-ghost use Rattle.packet_writer.specs.Packet.{Blocks, RowFits, flag_of, output_of_claim};
-ghost use Rattle.packet_writer.specs.Packet.{packet_by, packet_length};
-ghost use Rattle.serial_player.specs.Claim.{HasRow, HaveRows, RowsFitClaims, claim_by};
-ghost use Rattle.serial_player.specs.Table.{HasTick, IsTable, place_of_claim, placed};
+ghost use Rattle.packet_writer.specs.Flags.{AreClosed};
+ghost use Rattle.packet_writer.specs.Packet.{Blocks, packet_by};
+ghost use Rattle.serial_player.specs.Made.{AreBy, AreReady, IsBy, IsReady, all_made_by, made_by};
+ghost use Rattle.serial_player.specs.Made.{packet_length_of};
+ghost use Rattle.serial_player.specs.Table.{place_of_claim};
 
 use crate::blocks::TickOf;
 use block_builder::Blocks;
+use capture_file::{CLAIM_HEAD_LEN, write_claim_front};
 use io_caps::{Bytes, Flags, NoMemory};
 use map_entry::{Cell, Row, Setup, claim_output};
 use packet_writer::{OneRow, look_at_marked, mark_named, packet_len, write_claim};
 use plain_book::{ClaimItem, ClaimItems};
 use std::alloc::Global;
 
-/// The blocks of a claim's tick.
-fn tick_of<'a>(setup: &Setup, table: &'a [Blocks], k: u64) -> TickOf<'a>
-    ensures table { result.table.now ≡ table.now }
-    ensures place { result.place ≡ place_of_claim setup.now k }
-{
-    TickOf::new(table, (k / u64::from(setup.device.outputs())) as usize)
+/// A claim before it is made: its number, the row that rules it, and the blocks of all packets.
+#[derive(Drop)]
+pub(crate) struct OneClaim<'a> {
+    pub(crate) setup: &'a Setup,
+    pub(crate) row: &'a [Cell],
+    pub(crate) table: &'a [Blocks],
+    pub(crate) k: u64,
 }
 
-/// Sets the flag of each input whose block the packet of claim `k` finds: its row names the input,
-/// and its block is there.
-pub(crate) fn find(setup: &Setup, row: &[Cell], table: &[Blocks], k: u64, found: &mut [bool])
-    requires { length found.old ≡ length setup.now.device.inputs }
-    ensures len { length found.new ≡ length found.old }
-    ensures closed { (entries : List Entry) (blocks : Blocks)
-        → HasRow setup.now entries k row.now → HasTick setup.now table.now blocks k
-        → AreClosed setup.now entries blocks k found.new }
-{
-    mark_named(&OneRow::new(row), setup.device.rate().frames, found);
-    let untold = look_at_marked(&mut tick_of(setup, table, k), found);
-    // A look at a block in memory always tells.
-    prove!(untold.is_none());
+/// The first claims before they are made: the row that rules each, and the blocks of all packets.
+#[derive(Drop)]
+pub(crate) struct AllClaims<'a> {
+    pub(crate) setup: &'a Setup,
+    pub(crate) rows: &'a [Row],
+    pub(crate) table: &'a [Blocks],
 }
 
-/// Of which inputs the packet of claim `k` finds a block.
-fn flags(
-    alloc: Global,
-    setup: &Setup,
-    row: &[Cell],
-    table: &[Blocks],
-    k: u64,
-) -> Result<Flags, NoMemory>
-    ensures { IfOk result (λ made. (entries : List Entry) (blocks : Blocks)
-        → HasRow setup.now entries k row.now → HasTick setup.now table.now blocks k
-        → AreClosed setup.now entries blocks k made) }
-{
-    let mut made = vec![in alloc; false; setup.device.inputs() as usize]?;
-    find(setup, row, table, k, made.as_mut_slice());
-    Ok(Flags::from_vec(made))
-}
-
-/// Writes the packet of claim `k` into bytes of just its length.
-pub(crate) fn fill_packet(setup: &Setup, row: &[Cell], table: &[Blocks], k: u64, out: &mut [u8])
-    requires claim { k < TICKS_PAST_BASE }
-    requires row { RowFits setup.now.device.inputs
-        (channels_of_output setup.now.device (output_of_claim setup.now k)) row.now }
-    requires table { IsTable setup.now.device table.now }
-    requires room { length out.old ≡ packet_length setup.now.device (output_of_claim setup.now k) }
-    ensures { (entries : List Entry) (blocks : Blocks) (found : List Bool)
-        → HasRow setup.now entries k row.now → HasTick setup.now table.now blocks k
-        → AreClosed setup.now entries blocks k found
-        → out.new ≡ packet_by setup.now entries blocks found k }
-{
-    let mut blocks = tick_of(setup, table, k);
-    write_claim(&mut blocks, setup, &OneRow::new(row), k, out);
-}
-
-/// The packet of claim `k`.
-fn packet(
-    alloc: Global,
-    setup: &Setup,
-    row: &[Cell],
-    table: &[Blocks],
-    k: u64,
-) -> Result<Bytes, NoMemory>
-    requires claim { k < TICKS_PAST_BASE }
-    requires row { RowFits setup.now.device.inputs
-        (channels_of_output setup.now.device (output_of_claim setup.now k)) row.now }
-    requires table { IsTable setup.now.device table.now }
-    ensures { IfOk result (λ made.
-        (entries : List Entry) (blocks : Blocks) (found : List Bool)
-        → HasRow setup.now entries k row.now → HasTick setup.now table.now blocks k
-        → AreClosed setup.now entries blocks k found
-        → made ≡ packet_by setup.now entries blocks found k) }
-{
-    let device = &setup.device;
-    let output = claim_output(device.outputs(), k);
-    let mut made = vec![in alloc; 0u8; packet_len(device, output)]?;
-    fill_packet(setup, row, table, k, made.as_mut_slice());
-    Ok(Bytes::from_vec(made))
-}
-
-/// Claim `k`, by the row that rules it and over the blocks of a table.
-fn claim(
-    alloc: Global,
-    setup: &Setup,
-    row: &[Cell],
-    table: &[Blocks],
-    k: u64,
-) -> Result<ClaimItem, NoMemory>
-    requires claim { k < TICKS_PAST_BASE }
-    requires device { IsDevice setup.now.device }
-    requires row { RowFits setup.now.device.inputs
-        (channels_of_output setup.now.device (output_of_claim setup.now k)) row.now }
-    requires table { IsTable setup.now.device table.now }
-    ensures { IfOk result (λ made. (entries : List Entry) (blocks : Blocks)
-        → HasRow setup.now entries k row.now → HasTick setup.now table.now blocks k
-        → made ≡ claim_by setup.now entries blocks k) }
-{
-    let found = flags(alloc, setup, row, table, k)?;
-    let packet = packet(alloc, setup, row, table, k)?;
-    Ok(ClaimItem::new(k, found, packet))
-}
-
-/// The row at a place.
-pub(crate) fn row_at(rows: &[Row], at: usize) -> &[Cell]
-    requires { at < length rows.now }
-    ensures { slice_get rows.now at ≡ Some result.now }
-{
-    rows[at].as_slice()
-}
-
-/// The first claims, one for each of these rows, which rule them.
-pub(crate) fn make_claims(
-    alloc: Global,
-    setup: &Setup,
-    rows: &[Row],
-    table: &[Blocks],
-) -> Result<ClaimItems, NoMemory>
-    requires claims { length rows.now ≤ TICKS_PAST_BASE }
-    requires device { IsDevice setup.now.device }
-    requires rows { RowsFitClaims setup.now 0 rows.now }
-    requires table { IsTable setup.now.device table.now }
-    ensures { IfOk result (λ made. (entries : List Entry) (blocks : Blocks)
-        → HaveRows setup.now entries 0 rows.now
-        → ((k : ℕ) → k < length rows.now → HasTick setup.now table.now blocks k)
-        → made ≡ map (claim_by setup.now entries blocks) (range_with_len 0 (length rows.now))) }
-{
-    let mut made = ClaimItems::new(alloc);
-    for k in 0..rows.len() {
-        made.push(claim(alloc, setup, row_at(rows, k), table, k as u64)?)?;
+impl<'a> AllClaims<'a> {
+    /// The claim of a number.
+    pub(crate) fn claim(&self, k: usize) -> OneClaim<'a>
+        requires ready { AreReady self.now }
+        requires there { k < length self.now.rows.now }
+        ensures ready { IsReady result }
+        ensures setup { result.setup.now ≡ self.now.setup.now }
+        ensures by { (entries : List Entry) (blocks : Blocks) → AreBy self.now entries blocks
+            → IsBy result entries blocks }
+        ensures made { (entries : List Entry) (blocks : Blocks)
+            → made_by result entries blocks ≡ all_made_by self.now entries blocks k }
+    {
+        OneClaim {
+            setup: self.setup,
+            row: self.rows[k].as_slice(),
+            table: self.table,
+            k: k as u64,
+        }
     }
-    Ok(made)
+
+    /// Makes them.
+    pub(crate) fn make(&self, alloc: Global) -> Result<ClaimItems, NoMemory>
+        requires { AreReady self.now }
+        ensures { IfOk result (λ made. (entries : List Entry) (blocks : Blocks)
+            → AreBy self.now entries blocks
+            → made ≡ map (all_made_by self.now entries blocks)
+            (range_with_len 0 (length self.now.rows.now))) }
+    {
+        let mut made = ClaimItems::new(alloc);
+        for k in 0..self.rows.len() {
+            made.push(self.claim(k).make(alloc)?)?;
+        }
+        Ok(made)
+    }
+}
+
+impl<'a> OneClaim<'a> {
+    /// The blocks of its tick.
+    fn tick(&self) -> TickOf<'a>
+        ensures table { result.table.now ≡ self.now.table.now }
+        ensures place { result.place ≡ place_of_claim self.now.setup.now self.now.k }
+    {
+        let setup = self.setup;
+        let place = self.k / u64::from(setup.device.outputs());
+        TickOf::new(self.table, place as usize)
+    }
+
+    /// How many bytes its packet has.
+    pub(crate) fn packet_len(&self) -> usize
+        requires { IsReady self.now }
+        ensures { result ≡ packet_length_of self.now }
+    {
+        let setup = self.setup;
+        let output = claim_output(setup.device.outputs(), self.k);
+        packet_len(&setup.device, output)
+    }
+
+    /// Sets the flag of each input whose block its packet finds: its row names the input, and the
+    /// block is there.
+    pub(crate) fn set_found(&self, found: &mut [bool])
+        requires { length found.old ≡ length self.now.setup.now.device.inputs }
+        ensures len { length found.new ≡ length found.old }
+        ensures closed { (entries : List Entry) (blocks : Blocks) → IsBy self.now entries blocks
+            → AreClosed self.now.setup.now entries blocks self.now.k found.new }
+    {
+        let setup = self.setup;
+        mark_named(&OneRow::new(self.row), setup.device.rate().frames, found);
+        let untold = look_at_marked(&mut self.tick(), found);
+        // A look at a block in memory always tells.
+        prove!(untold.is_none());
+    }
+
+    /// Of which inputs its packet finds a block.
+    fn flags(&self, alloc: Global) -> Result<Flags, NoMemory>
+        ensures { IfOk result (λ made. (entries : List Entry) (blocks : Blocks)
+            → IsBy self.now entries blocks
+            → AreClosed self.now.setup.now entries blocks self.now.k made) }
+    {
+        let setup = self.setup;
+        let mut made = vec![in alloc; false; setup.device.inputs() as usize]?;
+        self.set_found(made.as_mut_slice());
+        Ok(Flags::from_vec(made))
+    }
+
+    /// Writes its packet into bytes of just its length.
+    fn fill_packet(&self, out: &mut [u8])
+        requires ready { IsReady self.now }
+        requires room { length out.old ≡ packet_length_of self.now }
+        ensures { (entries : List Entry) (blocks : Blocks) (found : List Bool)
+            → IsBy self.now entries blocks
+            → AreClosed self.now.setup.now entries blocks self.now.k found
+            → out.new ≡ packet_by self.now.setup.now entries blocks found self.now.k }
+    {
+        write_claim(
+            &mut self.tick(),
+            self.setup,
+            &OneRow::new(self.row),
+            self.k,
+            out,
+        );
+    }
+
+    /// Its packet.
+    fn packet(&self, alloc: Global) -> Result<Bytes, NoMemory>
+        requires { IsReady self.now }
+        ensures { IfOk result (λ made. (entries : List Entry) (blocks : Blocks) (found : List Bool)
+            → IsBy self.now entries blocks
+            → AreClosed self.now.setup.now entries blocks self.now.k found
+            → made ≡ packet_by self.now.setup.now entries blocks found self.now.k) }
+    {
+        let mut made = vec![in alloc; 0u8; self.packet_len()]?;
+        self.fill_packet(made.as_mut_slice());
+        Ok(Bytes::from_vec(made))
+    }
+
+    /// Makes it.
+    fn make(&self, alloc: Global) -> Result<ClaimItem, NoMemory>
+        requires { IsReady self.now }
+        ensures { IfOk result (λ made. (entries : List Entry) (blocks : Blocks)
+            → IsBy self.now entries blocks → made ≡ made_by self.now entries blocks) }
+    {
+        let found = self.flags(alloc)?;
+        let packet = self.packet(alloc)?;
+        Ok(ClaimItem::new(self.k, found, packet))
+    }
+
+    /// Writes its record, with the flags of the blocks that it found, into bytes of just the
+    /// record's length.
+    pub(crate) fn write_record(&self, found: &[bool], out: &mut [u8])
+        requires ready { IsReady self.now }
+        requires found { length found.now ≡ length self.now.setup.now.device.inputs }
+        requires room { length out.old
+            ≡ CLAIM_HEAD_LEN + length found.now + packet_length_of self.now }
+        ensures { (entries : List Entry) (blocks : Blocks) → IsBy self.now entries blocks
+            → AreClosed self.now.setup.now entries blocks self.now.k found.now
+            → out.new ≡ claim_bytes (made_by self.now entries blocks) }
+    {
+        let (front, packet) = out.split_at_mut(CLAIM_HEAD_LEN + found.len());
+        write_claim_front(front, self.k, found, packet.len());
+        self.fill_packet(packet);
+    }
 }

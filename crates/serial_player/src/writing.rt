@@ -1,186 +1,112 @@
 //! The result of a capture, given to a sink piece by piece: each packet is made in the buffer,
 //! behind the front of its record.
 
-ghost use Rattle.std.specs.Prelude.{◌≡◌, ◌≤◌, ◌<◌, ◌+◌, ◌++◌, [], ℕ, All, Bool, IfErr, IfOk, List};
-ghost use Rattle.std.specs.Prelude.{OnOk, length, take, map};
+ghost use Rattle.std.specs.Prelude.{◌≡◌, ◌≤◌, ◌<◌, ◌+◌, ◌++◌, [], All, IfErr, IfOk, List, OnOk};
+ghost use Rattle.std.specs.Prelude.{length, take};
 ghost use Rattle.std.specs.List.{flat_map, range_with_len};
 ghost use Rattle.std.specs.Io.KnownBytes.{Appends};
 ghost use Rattle.chan_io.specs.Causes.{HasCause, Rose};
 ghost use Rattle.chan_io.specs.Outgoing.{waiting_bytes};
 ghost use Rattle.chan_io.specs.Streams.{TakesPrefix, TellsAlike};
 ghost use Rattle.capture_file.specs.Capture.{IsCapture, capture_of};
-ghost use Rattle.capture_file.specs.Items.{end_text, item};
+ghost use Rattle.capture_file.specs.Items.{item};
 ghost use Rattle.capture_file.specs.Parts.{claim_bytes};
-ghost use Rattle.capture_file.specs.Result.{result_magic};
-ghost use Rattle.capture_file.specs.Walk.{IfFault};
-ghost use Rattle.io_caps.specs.Device.{IsDevice};
-ghost use Rattle.io_caps.specs.declared.limits.TheConstants.{TICKS_PAST_BASE};
-ghost use Rattle.map_entry.specs.Row.{channels_of_output};
+ghost use Rattle.capture_file.specs.Walk.{IfFault, IfNoMemory};
 ghost use Rattle.map_entry.specs.declared.entry.Entry.{Entry};
 ghost use Rattle.packet_writer.specs.Flags.{AreClosed};
-ghost use Rattle.packet_writer.specs.Packet.{Blocks, RowFits, output_of_claim, packet_length};
-ghost use Rattle.serial_player.specs.Claim.{HasRow, HaveRows, RowsFitClaims, claim_by};
+ghost use Rattle.packet_writer.specs.Packet.{Blocks};
+ghost use Rattle.serial_player.specs.Made.{AreBy, AreReady, IsBy, IsReady, all_made_by, made_by};
+ghost use Rattle.serial_player.specs.Made.{packet_length_of};
 ghost use Rattle.serial_player.specs.Sending.{SendsOn, TakesOn};
-ghost use Rattle.serial_player.specs.Table.{HasTick, IsTable};
-ghost use Rattle.serial_player.specs.Written.{IfNoMemory, IsPrepared, IsWritten, IsWrittenInPart};
-ghost use Rattle.serial_player.specs.Written.{piece_of, text_of};
+ghost use Rattle.serial_player.specs.Written.{IsPrepared, IsWritten, IsWrittenInPart};
+ghost use Rattle.serial_player.specs.Written.{record_behind, text_by};
 
-use crate::claims::{fill_packet, find, row_at};
-use crate::player::{Performance, perform};
-use block_builder::Blocks;
+use crate::claims::{AllClaims, OneClaim};
+use crate::player::{HistoryParts, make_parts};
 use capture_file::{
     CLAIM_HEAD_LEN, Capture, Item, RESULT_MAGIC, end_record, write_between, write_claim_front,
 };
 use chan_io::{Failed, Outgoing, Sink};
 use io_caps::{Bytes, ListOf, NoMemory, Or};
-use map_entry::{Cell, Row, Setup, claim_output};
-use packet_writer::packet_len;
+use map_entry::Setup;
 use std::alloc::Global;
 
-/// As many bytes of a result wait at most for others before the sink is given them. The record of a
-/// claim always has room.
+/// The most bytes of a result that wait. The longest record of a claim is shorter.
 const BUFFER_LEN: usize = 65_536;
 
 const _: () = prove!(BUFFER_LEN == 65_536);
 
-/// Writes the record of claim `k`, with the flags of the blocks that it found, into bytes of just
-/// its length.
-fn write_record(
-    setup: &Setup,
-    row: &[Cell],
-    table: &[Blocks],
-    k: u64,
-    found: &[bool],
-    out: &mut [u8],
-)
-    requires claim { k < TICKS_PAST_BASE }
-    requires device { IsDevice setup.now.device }
-    requires row { RowFits setup.now.device.inputs
-        (channels_of_output setup.now.device (output_of_claim setup.now k)) row.now }
-    requires table { IsTable setup.now.device table.now }
-    requires found { length found.now ≡ length setup.now.device.inputs }
-    requires room { length out.old ≡ CLAIM_HEAD_LEN + length found.now
-        + packet_length setup.now.device (output_of_claim setup.now k) }
-    ensures { (entries : List Entry) (blocks : Blocks)
-        → HasRow setup.now entries k row.now → HasTick setup.now table.now blocks k
-        → AreClosed setup.now entries blocks k found.now
-        → out.new ≡ claim_bytes (claim_by setup.now entries blocks k) }
-{
-    let (front, packet) = out.split_at_mut(CLAIM_HEAD_LEN + found.len());
-    write_claim_front(front, k, found, packet.len());
-    fill_packet(setup, row, table, k, packet);
-}
-
-/// Writes the record of claim `k`, of so many bytes, into a buffer from a place on.
-fn write_record_at(
-    setup: &Setup,
-    row: &[Cell],
-    table: &[Blocks],
-    k: u64,
-    found: &[bool],
-    buffer: &mut [u8],
-    at: usize,
-    len: usize,
-)
-    requires claim { k < TICKS_PAST_BASE }
-    requires device { IsDevice setup.now.device }
-    requires row { RowFits setup.now.device.inputs
-        (channels_of_output setup.now.device (output_of_claim setup.now k)) row.now }
-    requires table { IsTable setup.now.device table.now }
-    requires found { length found.now ≡ length setup.now.device.inputs }
-    requires len { len ≡ CLAIM_HEAD_LEN + length found.now
-        + packet_length setup.now.device (output_of_claim setup.now k) }
+/// Writes the record of a claim, of so many bytes, into a buffer from a place on.
+fn write_record_at(of: &OneClaim, found: &[bool], buffer: &mut [u8], at: usize, len: usize)
+    requires ready { IsReady of.now }
+    requires found { length found.now ≡ length of.now.setup.now.device.inputs }
+    requires len { len ≡ CLAIM_HEAD_LEN + length found.now + packet_length_of of.now }
     requires room { at + len ≤ length buffer.old }
-    ensures { (entries : List Entry) (blocks : Blocks)
-        → HasRow setup.now entries k row.now → HasTick setup.now table.now blocks k
-        → AreClosed setup.now entries blocks k found.now
+    ensures { (entries : List Entry) (blocks : Blocks) → IsBy of.now entries blocks
+        → AreClosed of.now.setup.now entries blocks of.now.k found.now
         → take (at + len) buffer.new
-        ≡ take at buffer.old ++ claim_bytes (claim_by setup.now entries blocks k) }
+        ≡ take at buffer.old ++ claim_bytes (made_by of.now entries blocks) }
 {
     let (_, room) = buffer.split_at_mut(at);
-    write_record(setup, row, table, k, found, &mut room[..len]);
+    of.write_record(found, &mut room[..len]);
 }
 
-/// Lets the record of claim `k` wait behind what does. `found` is for its flags.
+/// Puts the record of a claim behind the bytes that wait. `found` is for its flags.
 fn put_claim<K: Sink>(
-    setup: &Setup,
-    row: &[Cell],
-    table: &[Blocks],
-    k: u64,
+    of: &OneClaim,
     found: &mut [bool],
     out: &mut Outgoing,
     sink: &mut K,
 ) -> Result<(), Failed>
-    requires claim { k < TICKS_PAST_BASE }
-    requires device { IsDevice setup.now.device }
-    requires row { RowFits setup.now.device.inputs
-        (channels_of_output setup.now.device (output_of_claim setup.now k)) row.now }
-    requires table { IsTable setup.now.device table.now }
-    requires found { length found.old ≡ length setup.now.device.inputs }
+    requires ready { IsReady of.now }
+    requires found { length found.old ≡ length of.now.setup.now.device.inputs }
     requires size { length out.old.buffer.items ≡ BUFFER_LEN }
     ensures cause { HasCause (K.faults sink.old) (K.faults sink.new) result }
     ensures found { length found.new ≡ length found.old }
     ensures size { length out.new.buffer.items ≡ length out.old.buffer.items }
     ensures sent { OnOk result ((entries : List Entry) (blocks : Blocks)
-        → HasRow setup.now entries k row.now → HasTick setup.now table.now blocks k
+        → IsBy of.now entries blocks
         → SendsOn (K.taken sink.old) (waiting_bytes out.old) (K.taken sink.new)
-        (waiting_bytes out.new) (claim_bytes (claim_by setup.now entries blocks k))) }
+        (waiting_bytes out.new) (claim_bytes (made_by of.now entries blocks))) }
     ensures prefix { TakesOn (K.taken sink.old) (waiting_bytes out.old) (K.taken sink.new) [] }
 {
-    find(setup, row, table, k, found);
-    let output = claim_output(setup.device.outputs(), k);
-    let len = CLAIM_HEAD_LEN + found.len() + packet_len(&setup.device, output);
+    of.set_found(found);
+    let len = CLAIM_HEAD_LEN + found.len() + of.packet_len();
     out.make_room(sink, len)?;
-    write_record_at(
-        setup,
-        row,
-        table,
-        k,
-        found,
-        &mut out.buffer,
-        out.waiting,
-        len,
-    );
+    write_record_at(of, found, &mut out.buffer, out.waiting, len);
     out.waiting += len;
     Ok(())
 }
 
-/// Lets the records of the first claims wait behind what does, each behind what stands between it
-/// and the claim before it. A row rules each.
+/// Puts the records of the first claims behind the bytes that wait, each behind what stands between
+/// it and the claim before it. `found` is for the flags of a claim.
 fn put_claims<K: Sink>(
-    setup: &Setup,
-    rows: &[Row],
-    table: &[Blocks],
+    claims: &AllClaims,
     between: &[Bytes],
     found: &mut [bool],
     out: &mut Outgoing,
     sink: &mut K,
 ) -> Result<(), Failed>
-    requires claims { length rows.now ≤ TICKS_PAST_BASE }
-    requires device { IsDevice setup.now.device }
-    requires rows { RowsFitClaims setup.now 0 rows.now }
-    requires table { IsTable setup.now.device table.now }
-    requires between { length rows.now < length between.now }
-    requires found { length found.old ≡ length setup.now.device.inputs }
+    requires ready { AreReady claims.now }
+    requires between { length claims.now.rows.now < length between.now }
+    requires found { length found.old ≡ length claims.now.setup.now.device.inputs }
     requires size { length out.old.buffer.items ≡ BUFFER_LEN }
     ensures cause { HasCause (K.faults sink.old) (K.faults sink.new) result }
     ensures size { length out.new.buffer.items ≡ length out.old.buffer.items }
     ensures sent { OnOk result ((entries : List Entry) (blocks : Blocks)
-        → HaveRows setup.now entries 0 rows.now
-        → ((k : ℕ) → k < length rows.now → HasTick setup.now table.now blocks k)
+        → AreBy claims.now entries blocks
         → SendsOn (K.taken sink.old) (waiting_bytes out.old) (K.taken sink.new)
-        (waiting_bytes out.new) (flat_map (piece_of between.now (claim_by setup.now entries blocks))
-        (range_with_len 0 (length rows.now)))) }
-    ensures prefix { (entries : List Entry) (blocks : Blocks)
-        → HaveRows setup.now entries 0 rows.now
-        → ((k : ℕ) → k < length rows.now → HasTick setup.now table.now blocks k)
+        (waiting_bytes out.new)
+        (flat_map (record_behind between.now (all_made_by claims.now entries blocks))
+        (range_with_len 0 (length claims.now.rows.now)))) }
+    ensures prefix { (entries : List Entry) (blocks : Blocks) → AreBy claims.now entries blocks
         → TakesOn (K.taken sink.old) (waiting_bytes out.old) (K.taken sink.new)
-        (flat_map (piece_of between.now (claim_by setup.now entries blocks))
-        (range_with_len 0 (length rows.now))) }
+        (flat_map (record_behind between.now (all_made_by claims.now entries blocks))
+        (range_with_len 0 (length claims.now.rows.now))) }
 {
-    for k in 0..rows.len() {
+    for k in 0..claims.rows.len() {
         out.put(sink, between[k].as_slice())?;
-        put_claim(setup, row_at(rows, k), table, k as u64, found, out, sink)?;
+        put_claim(&claims.claim(k), found, out, sink)?;
     }
     Ok(())
 }
@@ -188,38 +114,32 @@ fn put_claims<K: Sink>(
 /// Gives a sink the whole text of a result. `found` is for the flags of a claim, and nothing waits
 /// in `out` before.
 fn put_result<K: Sink>(
-    setup: &Setup,
-    rows: &[Row],
-    table: &[Blocks],
+    claims: &AllClaims,
     between: &[Bytes],
     found: &mut [bool],
     out: &mut Outgoing,
     sink: &mut K,
 ) -> Result<(), Failed>
-    requires claims { length rows.now ≤ TICKS_PAST_BASE }
-    requires device { IsDevice setup.now.device }
-    requires rows { RowsFitClaims setup.now 0 rows.now }
-    requires table { IsTable setup.now.device table.now }
-    requires between { length rows.now < length between.now }
-    requires found { length found.old ≡ length setup.now.device.inputs }
+    requires ready { AreReady claims.now }
+    requires between { length claims.now.rows.now < length between.now }
+    requires found { length found.old ≡ length claims.now.setup.now.device.inputs }
     requires size { length out.old.buffer.items ≡ BUFFER_LEN }
     requires waiting { waiting_bytes out.old ≡ [] }
     ensures cause { HasCause (K.faults sink.old) (K.faults sink.new) result }
     ensures ok { OnOk result ((entries : List Entry) (blocks : Blocks)
-        → HaveRows setup.now entries 0 rows.now
-        → ((k : ℕ) → k < length rows.now → HasTick setup.now table.now blocks k)
+        → AreBy claims.now entries blocks
         → TellsAlike (K.taken sink.old) (K.taken sink.new)
         × Appends (K.taken sink.old) (K.taken sink.new)
-        (text_of between.now (claim_by setup.now entries blocks) (length rows.now))) }
-    ensures prefix { (entries : List Entry) (blocks : Blocks)
-        → HaveRows setup.now entries 0 rows.now
-        → ((k : ℕ) → k < length rows.now → HasTick setup.now table.now blocks k)
+        (text_by between.now (all_made_by claims.now entries blocks)
+        (length claims.now.rows.now))) }
+    ensures prefix { (entries : List Entry) (blocks : Blocks) → AreBy claims.now entries blocks
         → TakesPrefix (K.taken sink.old) (K.taken sink.new)
-        (text_of between.now (claim_by setup.now entries blocks) (length rows.now)) }
+        (text_by between.now (all_made_by claims.now entries blocks)
+        (length claims.now.rows.now)) }
 {
     out.put(sink, RESULT_MAGIC)?;
-    put_claims(setup, rows, table, between, found, out, sink)?;
-    out.put(sink, between[rows.len()].as_slice())?;
+    put_claims(claims, between, found, out, sink)?;
+    out.put(sink, between[claims.rows.len()].as_slice())?;
     out.put(sink, &end_record())?;
     out.flush(sink)
 }
@@ -227,7 +147,7 @@ fn put_result<K: Sink>(
 /// All that a result is written from and with: from here on no memory is taken.
 #[derive(Drop)]
 pub(crate) struct Prepared {
-    pub(crate) performance: Performance,
+    pub(crate) parts: HistoryParts,
     pub(crate) between: ListOf<Bytes>,
     pub(crate) found: Vec<bool>,
     pub(crate) out: Outgoing,
@@ -240,15 +160,15 @@ fn prepare(alloc: Global, setup: &Setup, items: &[Item], ticks: u64) -> Result<P
     requires fits { All item.Fits items.now }
     ensures { IfOk result (IsPrepared (capture_of setup.now items.now ticks)) }
 {
-    let performance = perform(alloc, setup, items, ticks)?;
+    let parts = make_parts(alloc, setup, items, ticks)?;
     let between = write_between(
         alloc,
-        performance.journal.as_slice(),
-        performance.replies.as_slice(),
-        performance.rows.len() as u64 + 1,
+        parts.journal.as_slice(),
+        parts.replies.as_slice(),
+        parts.rows.len() as u64 + 1,
     )?;
     Ok(Prepared {
-        performance,
+        parts,
         between,
         found: vec![in alloc; false; setup.device.inputs() as usize]?,
         out: Outgoing::new(alloc, BUFFER_LEN)?,
@@ -271,26 +191,20 @@ fn write_items<K: Sink>(
         sink.new))) }
     ensures cut_short { IfErr result (λ e. IfFault e (λ f. IsWrittenInPart
         (capture_of setup.now items.now ticks) (K.taken sink.old) (K.taken sink.new))) }
-    ensures nothing { IfErr result (λ e. IfNoMemory e
-        (K.taken sink.new ≡ K.taken sink.old)) }
+    ensures nothing { IfErr result (λ e. IfNoMemory e (sink.new ≡ sink.old)) }
 {
     let Prepared {
-        performance,
+        parts,
         between,
         mut found,
         mut out,
     } = prepare(alloc, setup, items, ticks)?;
-    let rows = performance.rows.as_slice();
-    let table = performance.table.as_slice();
-    match put_result(
+    let claims = AllClaims {
         setup,
-        rows,
-        table,
-        between.as_slice(),
-        &mut found,
-        &mut out,
-        sink,
-    ) {
+        rows: parts.rows.as_slice(),
+        table: parts.table.as_slice(),
+    };
+    match put_result(&claims, between.as_slice(), &mut found, &mut out, sink) {
         Ok(()) => Ok(()),
         Err(failed) => Err(Or::Fault(failed)),
     }
@@ -308,13 +222,13 @@ pub fn write_serial<K: Sink>(
     // The sink took the result of the serial history, of which nothing is left out, and in which no
     // activation changes a tick that has begun.
     ensures done { OnOk result (IsWritten capture.now (K.taken sink.old) (K.taken sink.new)) }
-    // It failed, and took the front of that.
+    // It failed, and took a front of that.
     ensures cause { IfErr result (λ e. IfFault e (λ f. Rose (K.faults sink.old) (K.faults
         sink.new))) }
     ensures cut_short { IfErr result (λ e. IfFault e (λ f. IsWrittenInPart capture.now
         (K.taken sink.old) (K.taken sink.new))) }
-    // Memory ran out, and it took nothing.
-    ensures nothing { IfErr result (λ e. IfNoMemory e (K.taken sink.new ≡ K.taken sink.old)) }
+    // Memory ran out, and it was not called.
+    ensures nothing { IfErr result (λ e. IfNoMemory e (sink.new ≡ sink.old)) }
 {
     write_items(
         alloc,

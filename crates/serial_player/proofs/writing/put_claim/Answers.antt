@@ -2,17 +2,17 @@ use Rattle.std.proofs.Common.{rules}
 use Rattle.std.proofs.lemmas.List.{places, with_items_is}
 use Rattle.capture_file.specs.Parts.{claim_bytes}
 use Rattle.chan_io.proofs.Sending.{sent_later}
-use Rattle.serial_player.specs.Claim.{claim_by}
+use Rattle.serial_player.specs.Made.{made_by}
 use Rattle.serial_player.proofs.writing.put_claim.Goals as goal
 
 pub returns-clause-sent : goal.returns-clause-sent
-returns-clause-sent g c = λ entries blocks row has start text h.
-    let closed = c.find.ensures.closed entries blocks row has in
-    let made = claim_bytes (claim_by c.args.setup.now entries blocks c.args.k) in
+returns-clause-sent g c = λ entries blocks by start text h.
+    let closed = c.set_found.ensures.closed entries blocks by in
+    let made = claim_bytes (made_by c.args.of.now entries blocks) in
     let sent = sent_later start _ _ text made (c.in_ok-make_room.ensures.sent start text h) in
     rw (
       with_items_is c.make_room.new.self.buffer c.write_record_at.new.buffer
           (search (rules, places)),
-      c.write_record_at.ensures entries blocks row has closed,
+      c.write_record_at.ensures entries blocks by closed,
       c.deref_mut.ensures.value,
     ) sent

@@ -7,59 +7,67 @@ use Rattle.serial_player.proofs.Sends.{takes_then}
 use Rattle.serial_player.proofs.writing.put_result.Goals as goal
 
 pub returns-in_err-put-clause-prefix : goal.returns-in_err-put-clause-prefix
-returns-in_err-put-clause-prefix g c = λ entries blocks rows has.
+returns-in_err-put-clause-prefix g c = λ entries blocks are.
     takes_longer _ _ _ _ _ c.in_err-put.ensures.prefix _ _
     (sent_nothing _ _ c.requires.waiting)
 
 pub returns-in_err-put_claims-clause-prefix : goal.returns-in_err-put_claims-clause-prefix
-returns-in_err-put_claims-clause-prefix g c = λ entries blocks rows has.
-    let takes = c.in_err-put_claims.ensures.prefix entries blocks rows has in
+returns-in_err-put_claims-clause-prefix g c = λ entries blocks are.
+    let takes = c.in_err-put_claims.ensures.prefix entries blocks are in
     takes_then _ _ _ _ _ _ _ c.in_ok-put.ensures.sent (takes_longer _ _ _ _ _ takes) _ _
     (sent_nothing _ _ c.requires.waiting)
 
 pub returns-in_err-put-2-clause-prefix : goal.returns-in_err-put-2-clause-prefix
-returns-in_err-put-2-clause-prefix g c = λ entries blocks rows has.
-    let between : c.as_slice.result.now ≡ get_or c.args.between.now (length c.args.rows.now) [] =
-    c.as_slice.ensures ∙ c.index-between-rows.is
-    ∙ get_or_default c.args.between.now (length c.args.rows.now) _ [] c.requires.between in
+returns-in_err-put-2-clause-prefix g c = λ entries blocks are.
+    let between : c.as_slice.result.now ≡ get_or c.args.between.now
+    (length c.args.claims.now.rows.now) [] =
+    c.as_slice.ensures ∙ c.index-between-claims.is
+    ∙ get_or_default c.args.between.now (length c.args.claims.now.rows.now) _ []
+    c.requires.between in
     let takes = takes_longer _ _ _ _ end_text c.in_err-put-2.ensures.prefix in
     takes_then _ _ _ _ _ _ _ c.in_ok-put.ensures.sent
-    (takes_then _ _ _ _ _ _ _ (c.in_ok-put_claims.ensures.sent entries blocks rows has)
+    (takes_then _ _ _ _ _ _ _ (c.in_ok-put_claims.ensures.sent entries blocks are)
     (rw between at takes)) _ _ (sent_nothing _ _ c.requires.waiting)
 
 pub returns-in_err-put-3-clause-prefix : goal.returns-in_err-put-3-clause-prefix
-returns-in_err-put-3-clause-prefix g c = λ entries blocks rows has.
-    let between : c.as_slice.result.now ≡ get_or c.args.between.now (length c.args.rows.now) [] =
-    c.as_slice.ensures ∙ c.index-between-rows.is
-    ∙ get_or_default c.args.between.now (length c.args.rows.now) _ [] c.requires.between in
+returns-in_err-put-3-clause-prefix g c = λ entries blocks are.
+    let between : c.as_slice.result.now ≡ get_or c.args.between.now
+    (length c.args.claims.now.rows.now) [] =
+    c.as_slice.ensures ∙ c.index-between-claims.is
+    ∙ get_or_default c.args.between.now (length c.args.claims.now.rows.now) _ []
+    c.requires.between in
     let sent = rw between at c.in_ok-put-2.ensures.sent in
     let takes = rw c.end_record.ensures at c.in_err-put-3.ensures.prefix in
     takes_then _ _ _ _ _ _ _ c.in_ok-put.ensures.sent
-    (takes_then _ _ _ _ _ _ _ (c.in_ok-put_claims.ensures.sent entries blocks rows has)
+    (takes_then _ _ _ _ _ _ _ (c.in_ok-put_claims.ensures.sent entries blocks are)
     (takes_then _ _ _ _ _ _ _ sent takes)) _ _ (sent_nothing _ _ c.requires.waiting)
 
 pub returns-clause-ok : goal.returns-clause-ok
 returns-clause-ok g c =
-    on_ok c.flush.result _ _ (λ flushed entries blocks rows has.
-    let between : c.as_slice.result.now ≡ get_or c.args.between.now (length c.args.rows.now) [] =
-    c.as_slice.ensures ∙ c.index-between-rows.is
-    ∙ get_or_default c.args.between.now (length c.args.rows.now) _ [] c.requires.between in
+    on_ok c.flush.result _ _ (λ flushed entries blocks are.
+    let between : c.as_slice.result.now ≡ get_or c.args.between.now
+    (length c.args.claims.now.rows.now) [] =
+    c.as_slice.ensures ∙ c.index-between-claims.is
+    ∙ get_or_default c.args.between.now (length c.args.claims.now.rows.now) _ []
+    c.requires.between in
     let sent = rw between at c.in_ok-put-2.ensures.sent in
     let last = rw c.end_record.ensures at c.in_ok-put-3.ensures.sent in
     sent_whole _ _ _ _ flushed.0 (flushed.1 _ _
     (sends_then _ _ _ _ _ _ _ _ c.in_ok-put.ensures.sent
-    (sends_then _ _ _ _ _ _ _ _ (c.in_ok-put_claims.ensures.sent entries blocks rows has)
+    (sends_then _ _ _ _ _ _ _ _ (c.in_ok-put_claims.ensures.sent entries blocks are)
     (sends_then _ _ _ _ _ _ _ _ sent last)) _ _ (sent_nothing _ _ c.requires.waiting))))
     (both_ok c.flush.result _ _ c.flush.ensures.none c.flush.ensures.sent)
 
 pub returns-clause-prefix : goal.returns-clause-prefix
-returns-clause-prefix g c = λ entries blocks rows has.
-    let between : c.as_slice.result.now ≡ get_or c.args.between.now (length c.args.rows.now) [] =
-    c.as_slice.ensures ∙ c.index-between-rows.is
-    ∙ get_or_default c.args.between.now (length c.args.rows.now) _ [] c.requires.between in
+returns-clause-prefix g c = λ entries blocks are.
+    let between : c.as_slice.result.now ≡ get_or c.args.between.now
+    (length c.args.claims.now.rows.now) [] =
+    c.as_slice.ensures ∙ c.index-between-claims.is
+    ∙ get_or_default c.args.between.now (length c.args.claims.now.rows.now) _ []
+    c.requires.between in
     let sent = rw between at c.in_ok-put-2.ensures.sent in
     let last = rw c.end_record.ensures at c.in_ok-put-3.ensures.sent in
     c.flush.ensures.prefix _ _
     (sends_then _ _ _ _ _ _ _ _ c.in_ok-put.ensures.sent
-    (sends_then _ _ _ _ _ _ _ _ (c.in_ok-put_claims.ensures.sent entries blocks rows has)
+    (sends_then _ _ _ _ _ _ _ _ (c.in_ok-put_claims.ensures.sent entries blocks are)
     (sends_then _ _ _ _ _ _ _ _ sent last)) _ _ (sent_nothing _ _ c.requires.waiting))

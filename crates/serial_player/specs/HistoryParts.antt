@@ -1,4 +1,4 @@
--- What a history is made of, once all records of a capture were done. (This project's own.)
+-- What the history of a capture is made of, once all its records were done. (This project's own.)
 use Rattle.std.specs.Prelude.{◌≡◌, map, All}
 use Rattle.std.specs.List.{range_with_len}
 use Rattle.capture_file.specs.Capture.{CaptureParts}
@@ -12,20 +12,20 @@ use Rattle.serial_player.specs.Claim.{AreRuling}
 use Rattle.serial_player.specs.Legal.{IsSerial}
 use Rattle.serial_player.specs.Serial.{blocks_of, packets_in}
 use Rattle.serial_player.specs.Table.{table_of}
-use Rattle.serial_player.specs.declared.player.Performance.{Performance}
+use Rattle.serial_player.specs.declared.player.HistoryParts.{HistoryParts}
 
--- the history that is made of it: each claim by all calls and over the blocks of all packets
-abbrev pub performed_history : CaptureParts → Performance → History
-performed_history c p =
+-- the history that is made of them: each claim by all calls and over the blocks of all packets
+abbrev pub history_by_parts : CaptureParts → HistoryParts → History
+history_by_parts c p =
     history_of
     (map (closed_claim c.setup p.journal (blocks_of c)) (range_with_len 0 (packets_in c)))
     p.journal p.replies
 
--- It is what the records of a capture did: the history made of it is the capture's serial one, and
--- it fits its fields where the records do. The table has the blocks of all packets, and the rows
--- rule the claims by all calls.
-pub record IsPerformed (c : CaptureParts) (p : Performance) : Type 0 where
-  pub serial : IsSerial c (performed_history c p)
-  pub fits : All item.Fits c.items → FitsHistory c.setup.device (performed_history c p)
+-- They are those of a capture: the history made of them is its serial one, and it fits its fields
+-- where the records do. The table has the blocks of all packets, and the rows rule the claims by
+-- all calls.
+pub record AreHistoryParts (c : CaptureParts) (p : HistoryParts) : Type 0 where
+  pub serial : IsSerial c (history_by_parts c p)
+  pub fits : All item.Fits c.items → FitsHistory c.setup.device (history_by_parts c p)
   pub table : p.table ≡ table_of c.setup.device c.items c.ticks
   pub rows : AreRuling c.setup (entries_of c.setup p.journal) (packets_in c) p.rows

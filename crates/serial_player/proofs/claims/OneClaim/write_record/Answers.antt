@@ -4,15 +4,15 @@ use Rattle.capture_file.proofs.Between.{claim_split}
 use Rattle.packet_writer.specs.Packet.{packet_by}
 use Rattle.plain_book.specs.History.{claim_item}
 use Rattle.serial_player.proofs.TableClaims.{claim_is}
-use Rattle.serial_player.proofs.writing.write_record.Goals as goal
+use Rattle.serial_player.proofs.claims.OneClaim.write_record.Goals as goal
 
 pub returns : goal.returns
-returns c = λ entries blocks row has closed.
-    let s = c.args.setup.now in
-    let k = c.args.k in
+returns c = λ entries blocks by closed.
+    let s = c.args.self.now.setup.now in
+    let k = c.args.self.now.k in
     let found = c.args.found.now in
     let packet = packet_by s entries blocks found k in
-    let is = c.fill_packet.ensures entries blocks found row has closed in
+    let is = c.fill_packet.ensures entries blocks found by closed in
     let long : length c.split_at_mut-front.result.1.now ≡ length c.fill_packet.new.out =
     sym c.fill_packet.auto.out in
     rw (c.write_claim_front.ensures, long, is)

@@ -7,17 +7,18 @@ use Rattle.packet_writer.specs.Flags.{is_named}
 use Rattle.packet_writer.specs.Packet.{flag_of}
 use Rattle.serial_player.specs.Table.{place_of_claim, placed}
 use Rattle.serial_player.proofs.TableClaims.{flag_is, flags_closed, when_none}
-use Rattle.serial_player.proofs.claims.find.Goals as goal
+use Rattle.serial_player.proofs.claims.OneClaim.set_found.Goals as goal
 
 pub returns-clause-closed : goal.returns-clause-closed
-returns-clause-closed c = λ entries blocks rules has.
-    let s = c.args.setup.now in
-    let k = c.args.k in
-    let table = c.args.table.now in
-    let row = c.args.row.now in
+returns-clause-closed c = λ entries blocks by.
+    let of = c.args.self.now in
+    let s = of.setup.now in
+    let k = of.k in
+    let table = of.table.now in
+    let row = of.row.now in
     let n = s.device.rate.frames in
     let look = c.look_at_marked-untold.ensures in
-    let tick = c.tick_of.result in
+    let tick = c.tick.result in
     let here = λ (i : ℕ). is_some (placed table (place_of_claim s k) i) in
     let frames : c.rate.result.frames ≡ n =
     ap (λ (r : Rate). r.frames) c.rate.ensures.value
@@ -41,10 +42,10 @@ returns-clause-closed c = λ entries blocks rules has.
     ∙ ap (λ (m : ℕ). is_named m (λ f. c.new.result.row.now) i) frames
     ∙ ap (λ (r : List Cell). is_named n (λ f. r) i) (c.new.ensures.row 0) in
     let same : is_some (placed tick.table.now tick.place i) ≡ here i =
-    rw (c.tick_of.ensures.table, c.tick_of.ensures.place) refl in
+    rw (c.tick.ensures.table, c.tick.ensures.place) refl in
     let seen = look.kept i (is_some (placed tick.table.now tick.place i)) refl in
     flag_is (is_named n (λ f. row) i) (here i) (flag_of found i) (flag_of flags i) marked
     (λ set. set_told i within set ∙ sym seen ∙ same) (λ none. unset_told i within none) in
     let long : length found ≡ length s.device.inputs =
     look.len ∙ c.mark_named.ensures.len ∙ c.requires in
-    flags_closed s entries blocks table k row found rules has long each
+    flags_closed s entries blocks table k row found by.0 by.1 long each

@@ -4,9 +4,9 @@ use Rattle.capture_file.specs.Capture.{capture_of}
 use Rattle.plain_book.specs.History.{StampsRise}
 use Rattle.serial_player.specs.Serial.{steps_of}
 use Rattle.serial_player.specs.Table.{table_of}
-use Rattle.serial_player.proofs.History.{performed_is}
+use Rattle.serial_player.proofs.History.{parts_are}
 use Rattle.serial_player.proofs.Told.{stamps_rise}
-use Rattle.serial_player.proofs.player.perform.Goals as goal
+use Rattle.serial_player.proofs.player.make_parts.Goals as goal
 
 pub in_order-requires : goal.in_order-requires
 in_order-requires c =
@@ -19,7 +19,7 @@ returns c =
     let s = c.args.setup.now in
     let items = c.args.items.now in
     let ticks = c.args.ticks in
-    performed_is (capture_of s items ticks) c.in_ok-desk.field-0 _ c.requires.capture
+    parts_are (capture_of s items ticks) c.in_ok-desk.field-0 _ c.requires.capture
     c.in_ok-desk.ensures.run c.in_ok-desk.ensures.played
     (c.in_ok-desk.ensures.claims ∙ c.requires.capture.work)
     (c.table.view_is ∙ c.in_ok-table.ensures
