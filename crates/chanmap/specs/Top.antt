@@ -7,7 +7,7 @@ use Rattle.chan_io.specs.Streams.{WholeRead, TakesPrefix, TellsAlike}
 use Rattle.capture_file.specs.Capture.{CaptureParts, IsCaptureAt, IsCaptureText}
 use Rattle.capture_file.specs.Fault.{FaultIs}
 use Rattle.capture_file.specs.Records.{ShowsAll}
-use Rattle.capture_file.specs.Result.{result_text}
+use Rattle.capture_file.specs.Result.{FitsHistory, result_text}
 use Rattle.capture_file.specs.declared.fault.CaptureFault.{CaptureFault}
 use Rattle.capture_file.specs.declared.fault.CaptureKind.{CaptureKind}
 use Rattle.capture_file.specs.declared.fault.CaptureKind.TheVariants.{Magic, Cut, Tag, Order}
@@ -54,14 +54,15 @@ pub record IsWholeInput (bytes : List ℕ) (capture : CaptureParts) : Type 0 whe
   pub sound : (at : ℕ) (kind : CaptureKind) → IsRefusedAt bytes at kind → ⊥
 
 -- The bytes are the text of one capture and have no fault, and this text is the result of the
--- capture's serial history: nothing of it is left out, it is legal, and in it no activation changes
--- a tick that has begun.
+-- capture's serial history: nothing of it is left out, and each part of it is what some record of a
+-- result is read as. The history is legal, and in it no activation changes a tick that has begun.
 pub record IsSerialAnswer (bytes text : List ℕ) : Type 0 where
   pub capture : CaptureParts
   pub history : History
   pub input : IsWholeInput bytes capture
   pub serial : IsSerial capture history
   pub begun : KeepsBegunTicks capture history
+  pub fits : FitsHistory capture.setup.device history
   pub shows : ShowsAll history
   pub written : text ≡ result_text capture.setup.device history
 
@@ -79,7 +80,7 @@ pub record IsGiven (command : Command) (bytes : List ℕ) (taken_old taken_new :
   pub alike : TellsAlike taken_old taken_new
   pub took : Appends taken_old taken_new text
 
--- the sink took the front of what the command makes of these bytes
+-- the sink took a front of what the command makes of these bytes, maybe none or all of it
 pub record IsGivenInPart (command : Command) (bytes : List ℕ)
     (taken_old taken_new : Option (List ℕ)) : Type 0 where
   pub text : List ℕ
@@ -93,7 +94,7 @@ pub record IsDone (command : Command) (left_old left_new taken_old taken_new : O
   pub read : WholeRead left_old left_new MOST_BYTES bytes
   pub given : IsGiven command bytes taken_old taken_new
 
--- the source was read to its end, and the sink took the front of what the command makes of it
+-- the source was read to its end, and the sink took a front of what the command makes of it
 pub record IsCutShort (command : Command) (left_old left_new taken_old taken_new : Option (List ℕ))
     : Type 0 where
   pub bytes : List ℕ

@@ -3,6 +3,7 @@
 mod clients;
 mod faults;
 mod requests;
+mod results;
 
 use crate::top::chanmap;
 use chan_io::{MemSink, MemSource, StdSink};

@@ -28,7 +28,7 @@ pub const MOST_BYTES: usize = 67_108_864;
 const _: () = prove!(MOST_BYTES == 67_108_864);
 
 /// The capture that all of these bytes are, or their first fault.
-fn read_all<'a>(alloc: Global, bytes: &'a [u8]) -> Result<Capture<'a>, Or<CaptureFault>>
+pub(crate) fn read_all<'a>(alloc: Global, bytes: &'a [u8]) -> Result<Capture<'a>, Or<CaptureFault>>
     ensures found { IfOk result (IsWholeInput bytes.now) }
     ensures fault { IfErr result (λ e. IfFault e (IsNoCapture bytes.now)) }
 {
@@ -62,8 +62,7 @@ fn answer_serial<K: Sink>(alloc: Global, bytes: &[u8], out: &mut K) -> Result<()
         → IsGivenInPart Serial bytes.now (K.taken out.old) (K.taken out.new) }
     ensures refused { (fault : CaptureFault) → IsErrOf result (Refused fault)
         → IsNoCapture bytes.now fault }
-    ensures nothing { OnErr result ((IsErrOf result Unwritten → ⊥)
-        → K.taken out.new ≡ K.taken out.old) }
+    ensures nothing { OnErr result ((IsErrOf result Unwritten → ⊥) → out.new ≡ out.old) }
 {
     let capture = match read_all(alloc, bytes) {
         Ok(capture) => capture,
@@ -90,8 +89,7 @@ fn answer<K: Sink>(
         → IsGivenInPart command bytes.now (K.taken out.old) (K.taken out.new) }
     ensures refused { (fault : CaptureFault) → IsErrOf result (Refused fault)
         → IsNoCapture bytes.now fault }
-    ensures nothing { OnErr result ((IsErrOf result Unwritten → ⊥)
-        → K.taken out.new ≡ K.taken out.old) }
+    ensures nothing { OnErr result ((IsErrOf result Unwritten → ⊥) → out.new ≡ out.old) }
 {
     match command {
         Command::Serial => answer_serial(alloc, bytes, out),
@@ -124,8 +122,7 @@ fn run<S: Source, K: Sink>(
     ensures too_long { IsErrOf result End.TooLong
         → LongRead (S.left src.old) (S.left src.new) MOST_BYTES }
     ensures bounded { BoundedRead (S.left src.old) (S.left src.new) (MOST_BYTES + 1) }
-    ensures nothing { OnErr result ((IsErrOf result End.WriteFault → ⊥)
-        → K.taken out.new ≡ K.taken out.old) }
+    ensures nothing { OnErr result ((IsErrOf result End.WriteFault → ⊥) → out.new ≡ out.old) }
 {
     let Some(command) = command_of(words) else {
         return Err(End::Usage);
@@ -162,7 +159,7 @@ pub fn without_words<X: Sink>(err: &mut X) -> u8
 /// | 0 | `out` took the whole result | none |
 /// | 2 | exactly where the words are not `serial` alone | `usage: chanmap serial` |
 /// | 3 | only where the source's count of faults rose | `read fault` |
-/// | 4 | only where the count of `out` rose, which took the front of the result | `write fault` |
+/// | 4 | only where the count of `out` rose, which took a front of the result | `write fault` |
 /// | 5 | all was read, and the bytes are no capture: their first fault | `refused at P: KIND` |
 /// | 7 | `MOST_BYTES` + 1 bytes were read | `too long` |
 /// | 12 | memory ran out | `no memory` |
@@ -186,7 +183,7 @@ pub fn chanmap<S: Source, K: Sink, X: Sink>(
     // Only where the source's count rose, and not more than the most was read.
     ensures read_fault { result ≡ 3 → Rose (S.faults src.old) (S.faults src.new) }
     ensures short { result ≡ 3 → BoundedRead (S.left src.old) (S.left src.new) MOST_BYTES }
-    // Only where the count of `out` rose, which took the front of what the command makes.
+    // Only where the count of `out` rose, which took a front of what the command makes.
     ensures write_fault { result ≡ 4 → Rose (K.faults out.old) (K.faults out.new) }
     ensures cut_short { result ≡ 4 → (command : Command) → command_of words.now ≡ Some command
         → IsCutShort command (S.left src.old) (S.left src.new) (K.taken out.old) (K.taken out.new) }
@@ -211,8 +208,8 @@ pub fn chanmap<S: Source, K: Sink, X: Sink>(
     ensures stops { (command : Command) → command_of words.now ≡ Some command
         → HoldsTooMuch (S.left src.old) → (Rose (S.faults src.old) (S.faults src.new) → ⊥)
         → (result ≡ 7) ⊎ (result ≡ 12) }
-    // With each other status than 0 and 4 `out` took nothing.
-    ensures nothing { (result ≡ 0 → ⊥) → (result ≡ 4 → ⊥) → K.taken out.new ≡ K.taken out.old }
+    // With each other status than 0 and 4 `out` was not called.
+    ensures nothing { (result ≡ 0 → ⊥) → (result ≡ 4 → ⊥) → out.new ≡ out.old }
     // With status 0 `err` took nothing; with each other `err` took the line of an end that has this
     // status.
     ensures quiet { result ≡ 0 → X.taken err.new ≡ X.taken err.old }
