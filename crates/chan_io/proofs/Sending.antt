@@ -1,10 +1,10 @@
 -- What is known of a text on its way to a sink, after one call and another.
-use Rattle.std.proofs.Common.{◌≡◌, ℕ, ◌+◌, ◌≤◌, List, [], ◌++◌, length, take, Option}
-use Rattle.std.proofs.Common.{sym, ap, ◌∙◌, append_assoc, arith}
+use Rattle.std.proofs.Common.{◌≡◌, ℕ, ◌+◌, ◌≤◌, List, [], ◌++◌, length, take, Option, sym, ap, ◌∙◌}
+use Rattle.std.proofs.Common.{append_assoc, arith, refl, subst}
 use Rattle.std.proofs.lemmas.List.{append-nil, length-append, length-take, take_at}
 use Rattle.std.specs.Io.KnownBytes.{Appends}
-use Rattle.chan_io.specs.Streams.{HasSent, TakesPrefix, TellsAlike}
-use Rattle.chan_io.proofs.Told.{Appends-then, TellsAlike-then}
+use Rattle.chan_io.specs.Streams.{HasSent, TakesPrefix, TellsAlike, SendsOn, TakesOn}
+use Rattle.chan_io.proofs.Told.{Appends-then, TellsAlike-then, Appends-nothing, TellsAlike-same}
 
 -- a sink that took a front of what waits took a front of the text
 pub sent_front : (start mid new : Option (List ℕ)) (waiting text : List ℕ)
@@ -79,3 +79,48 @@ placed buffer bytes behind waiting within =
     omega (arith, length-append front bytes, length-take waiting buffer, within) in
     ap (λ (z : List ℕ). take (waiting + length bytes) z) (sym (append_assoc front bytes behind))
     ∙ take_at (front ++ bytes) behind (waiting + length bytes) long
+
+-- ---- one text behind another
+
+-- more, and then more
+pub sends_then : (a b c : Option (List ℕ)) (wa wb wc x y : List ℕ) → SendsOn a wa b wb x
+    → SendsOn b wb c wc y → SendsOn a wa c wc (x ++ y)
+sends_then a b c wa wb wc x y one then start text h =
+    subst (HasSent start c wc) (append_assoc text x y) (then start (text ++ x) (one start text h))
+
+-- more, and then a front of more
+pub takes_then : (a b c : Option (List ℕ)) (wa wb x y : List ℕ) → SendsOn a wa b wb x
+    → TakesOn b wb c y → TakesOn a wa c (x ++ y)
+takes_then a b c wa wb x y one then start text h =
+    subst (TakesPrefix start c) (append_assoc text x y) (then start (text ++ x) (one start text h))
+
+-- a front of more is one of still more
+pub takes_longer : (a c : Option (List ℕ)) (wa x y : List ℕ) → TakesOn a wa c x
+    → TakesOn a wa c (x ++ y)
+takes_longer a c wa x y takes start text h =
+    subst (TakesPrefix start c) (append_assoc text x y)
+    (longer_front start c (text ++ x) y (takes start text h))
+
+-- of a text that went its way the sink took a front
+pub sends_takes : (a c : Option (List ℕ)) (wa wc x : List ℕ) → SendsOn a wa c wc x
+    → TakesOn a wa c x
+sends_takes a c wa wc x sends start text h = sent_so_far start c wc (text ++ x) (sends start text h)
+
+-- where nothing waits, no text went yet
+pub sent_nothing : (now : Option (List ℕ)) (waiting : List ℕ) → waiting ≡ []
+    → HasSent now now waiting []
+sent_nothing now waiting none = rw none (record {
+  sent = [];
+  alike = TellsAlike-same now;
+  took = Appends-nothing now;
+  parts = refl;
+})
+
+-- where none of it waits any more, the sink took it
+pub sent_whole : (old new : Option (List ℕ)) (waiting text : List ℕ) → waiting ≡ []
+    → HasSent old new waiting text → TellsAlike old new × Appends old new text
+sent_whole old new waiting text none h = (
+  h.alike,
+  subst (Appends old new)
+      (sym (h.parts ∙ ap (λ (z : List ℕ). h.sent ++ z) none ∙ append-nil h.sent)) h.took,
+)

@@ -1,7 +1,7 @@
 -- What a read does to the bytes that a source has left, and a write to the bytes that a sink has
 -- taken, where these are told. (This project's own.)
-use Rattle.std.specs.Prelude.{◌≡◌, ℕ, ◌+◌, ◌<◌, ◌≤◌, List, ◌++◌, length, take}
-use Rattle.std.specs.Prelude.{⊤, Option, Some, None, Result, MatchResult}
+use Rattle.std.specs.Prelude.{◌≡◌, ℕ, ◌+◌, ◌<◌, ◌≤◌, List, ◌++◌, length, take, ⊤, Option, Some}
+use Rattle.std.specs.Prelude.{None, Result, MatchResult}
 use Rattle.std.specs.Io.KnownBytes.{Consumes, Appends, IsAtEnd}
 
 -- A call tells its bytes after it just where it told them before it.
@@ -64,3 +64,16 @@ pub record HasSent (old new : Option (List ℕ)) (waiting text : List ℕ) : Typ
   pub alike : TellsAlike old new
   pub took : Appends old new sent
   pub parts : text ≡ sent ++ waiting
+
+-- Behind whatever text was given out before, this one more was: the sink took a front of both, and
+-- the rest waits.
+abbrev pub SendsOn : Option (List ℕ) → List ℕ → Option (List ℕ) → List ℕ → List ℕ → Type 0
+SendsOn old old_waiting new new_waiting more =
+    (start : Option (List ℕ)) (text : List ℕ) → HasSent start old old_waiting text
+    → HasSent start new new_waiting (text ++ more)
+
+-- Of whatever text was given out before, and this behind it, the sink took a front.
+abbrev pub TakesOn : Option (List ℕ) → List ℕ → Option (List ℕ) → List ℕ → Type 0
+TakesOn old old_waiting new more =
+    (start : Option (List ℕ)) (text : List ℕ) → HasSent start old old_waiting text
+    → TakesPrefix start new (text ++ more)

@@ -3,7 +3,7 @@
 ghost use Rattle.std.specs.Prelude.{◌≡◌, ◌≤◌, ◌+◌, ◌++◌, [], ℕ, List, Option, IfOk, OnOk};
 ghost use Rattle.std.specs.Prelude.{length, take, vec_len};
 ghost use Rattle.chan_io.specs.Causes.{HasCause};
-ghost use Rattle.chan_io.specs.Streams.{HasSent, TakesPrefix};
+ghost use Rattle.chan_io.specs.Streams.{HasSent, SendsOn, TakesOn, TakesPrefix};
 
 use crate::whole::write_whole;
 use crate::{Failed, Sink};
@@ -85,12 +85,10 @@ impl Outgoing {
     pub fn put<K: Sink>(&mut self, sink: &mut K, bytes: &[u8]) -> Result<(), Failed>
         ensures cause { HasCause (K.faults sink.old) (K.faults sink.new) result }
         ensures size { length self.new.buffer.items ≡ length self.old.buffer.items }
-        ensures sent { OnOk result ((start : Option (List ℕ)) (text : List ℕ)
-            → HasSent start (K.taken sink.old) (waiting_bytes self.old) text
-            → HasSent start (K.taken sink.new) (waiting_bytes self.new) (text ++ bytes.now)) }
-        ensures prefix { (start : Option (List ℕ)) (text : List ℕ)
-            → HasSent start (K.taken sink.old) (waiting_bytes self.old) text
-            → TakesPrefix start (K.taken sink.new) (text ++ bytes.now) }
+        ensures sent { OnOk result (SendsOn (K.taken sink.old) (waiting_bytes self.old)
+            (K.taken sink.new) (waiting_bytes self.new) bytes.now) }
+        ensures prefix { TakesOn (K.taken sink.old) (waiting_bytes self.old) (K.taken sink.new)
+            bytes.now }
     {
         if bytes.len() > self.buffer.len() {
             self.flush(sink)?;
