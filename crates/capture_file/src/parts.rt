@@ -9,7 +9,7 @@ ghost use Rattle.capture_file.specs.Items.{end_text};
 ghost use Rattle.capture_file.specs.Parts.{AreLeft, between_bytes, claim_front};
 ghost use Rattle.capture_file.specs.Tags.{claim_tag};
 
-use crate::result::{CLAIM_NUMBER_LEN, push_between};
+use crate::result::{CLAIM_NUMBER_LEN, LeftBetween, push_between};
 use crate::{JournalCall, ReplyItem, tags};
 use byteorder::{BigEndian, ByteOrder};
 use io_caps::{Bytes, ListOf, NoMemory};
@@ -34,10 +34,10 @@ pub fn write_between(
         (range_with_len 0 numbers)) }
 {
     let mut made = ListOf::new(alloc);
-    let mut left = (calls, replies);
+    let mut left = LeftBetween { calls, replies };
     for number in 0..numbers {
         let mut text = Vec::new(alloc);
-        left = push_between(alloc, &mut text, left.0, left.1, number)?;
+        left = push_between(alloc, &mut text, &left, number)?;
         made.push(Bytes::from_vec(text))?;
     }
     Ok(made)

@@ -148,7 +148,11 @@ fn push_claims(out: &mut Vec<u8>, claims: &[ClaimItem]) -> Result<(), NoMemory>
 }
 
 /// Calls and replies that are left to be written.
-pub(crate) type LeftBetween<'a> = (&'a [JournalCall], &'a [ReplyItem]);
+#[derive(Clone, Copy)]
+pub(crate) struct LeftBetween<'a> {
+    pub(crate) calls: &'a [JournalCall],
+    pub(crate) replies: &'a [ReplyItem],
+}
 
 /// Writes what stands between two claims, at a number of claims: the calls, and then the replies.
 /// What stands at further numbers is held back, and handed out.
@@ -156,26 +160,29 @@ pub(crate) type LeftBetween<'a> = (&'a [JournalCall], &'a [ReplyItem]);
 pub(crate) fn push_between<'a>(
     alloc: Global,
     out: &mut Vec<u8>,
-    calls: &'a [JournalCall],
-    replies: &'a [ReplyItem],
+    left: &LeftBetween<'a>,
     number: u64,
 ) -> Result<LeftBetween<'a>, NoMemory>
-    requires { AreLeft number calls.now replies.now }
+    requires { AreLeft number left.now.calls.now left.now.replies.now }
     ensures ok { OnOk result (out.new.items
-        ≡ out.old.items ++ between_bytes number calls.now replies.now) }
-    ensures held { IfOk result
-        (λ x. AreHeld (number + 1) calls.now replies.now x.0.now x.1.now) }
+        ≡ out.old.items ++ between_bytes number left.now.calls.now left.now.replies.now) }
+    ensures held { IfOk result (λ later. AreHeld (number + 1) left.now.calls.now
+        left.now.replies.now later.calls.now later.replies.now) }
     ensures grows { Grows out.old.items out.new.items }
 {
-    let (now, later_calls) = split_run(calls, number);
+    let (now, calls) = split_run(left.calls, number);
     push_calls(alloc, out, now)?;
-    let (now, later_replies) = split_run(replies, number);
+    let (now, replies) = split_run(left.replies, number);
     push_replies(alloc, out, now)?;
-    Ok((later_calls, later_replies))
+    Ok(LeftBetween { calls, replies })
 }
 
 /// Calls, replies and claims that are left to be written.
-type Left<'a> = (&'a [JournalCall], &'a [ReplyItem], &'a [ClaimItem]);
+#[derive(Clone, Copy)]
+pub(crate) struct Left<'a> {
+    pub(crate) between: LeftBetween<'a>,
+    pub(crate) claims: &'a [ClaimItem],
+}
 
 /// Writes what stands at a number of claims, in front of what is left: the calls, the replies, and
 /// the claim of that number. What stands at further numbers is held back.
@@ -183,22 +190,22 @@ type Left<'a> = (&'a [JournalCall], &'a [ReplyItem], &'a [ClaimItem]);
 fn push_at<'a>(
     alloc: Global,
     out: &mut Vec<u8>,
-    calls: &'a [JournalCall],
-    replies: &'a [ReplyItem],
-    claims: &'a [ClaimItem],
+    left: &Left<'a>,
     number: u64,
 ) -> Result<Left<'a>, NoMemory>
-    requires { IsLeft number calls.now replies.now claims.now }
-    ensures ok { OnOk result (out.new.items
-        ≡ out.old.items ++ bytes_at number calls.now replies.now claims.now) }
-    ensures held { IfOk result (λ x. IsHeld (number + 1) calls.now replies.now claims.now
-        x.0.now x.1.now x.2.now) }
+    requires { IsLeft number left.now.between.calls.now left.now.between.replies.now
+        left.now.claims.now }
+    ensures ok { OnOk result (out.new.items ≡ out.old.items ++ bytes_at number
+        left.now.between.calls.now left.now.between.replies.now left.now.claims.now) }
+    ensures held { IfOk result (λ later. IsHeld (number + 1) left.now.between.calls.now
+        left.now.between.replies.now left.now.claims.now later.between.calls.now
+        later.between.replies.now later.claims.now) }
     ensures grows { Grows out.old.items out.new.items }
 {
-    let (later_calls, later_replies) = push_between(alloc, out, calls, replies, number)?;
-    let (now, later_claims) = split_run(claims, number);
+    let between = push_between(alloc, out, &left.between, number)?;
+    let (now, claims) = split_run(left.claims, number);
     push_claims(out, now)?;
-    Ok((later_calls, later_replies, later_claims))
+    Ok(Left { between, claims })
 }
 
 /// Writes what stands at each number of claims from `from` to below `to`. What stands at further
@@ -207,23 +214,23 @@ fn push_at<'a>(
 pub(crate) fn push_range<'a>(
     alloc: Global,
     out: &mut Vec<u8>,
-    calls: &'a [JournalCall],
-    replies: &'a [ReplyItem],
-    claims: &'a [ClaimItem],
+    all: &Left<'a>,
     from: u64,
     to: u64,
 ) -> Result<Left<'a>, NoMemory>
     requires range { from ≤ to }
-    requires left { IsLeft from calls.now replies.now claims.now }
-    ensures ok { OnOk result (out.new.items
-        ≡ out.old.items ++ range_bytes from (to - from) calls.now replies.now claims.now) }
-    ensures held { IfOk result (λ x. IsHeld to calls.now replies.now claims.now
-        x.0.now x.1.now x.2.now) }
+    requires left { IsLeft from all.now.between.calls.now all.now.between.replies.now
+        all.now.claims.now }
+    ensures ok { OnOk result (out.new.items ≡ out.old.items ++ range_bytes from (to - from)
+        all.now.between.calls.now all.now.between.replies.now all.now.claims.now) }
+    ensures held { IfOk result (λ later. IsHeld to all.now.between.calls.now
+        all.now.between.replies.now all.now.claims.now later.between.calls.now
+        later.between.replies.now later.claims.now) }
     ensures grows { Grows out.old.items out.new.items }
 {
-    let mut left = (calls, replies, claims);
+    let mut left = *all;
     for number in from..to {
-        left = push_at(alloc, out, left.0, left.1, left.2, number)?;
+        left = push_at(alloc, out, &left, number)?;
     }
     Ok(left)
 }
@@ -244,19 +251,14 @@ pub fn write_result(
     ensures shows { ShowsAll history.now }
     ensures grows { Grows out.old.items out.new.items }
 {
-    let calls = history.journal.as_slice();
-    let replies = history.replies.as_slice();
+    let between = LeftBetween {
+        calls: history.journal.as_slice(),
+        replies: history.replies.as_slice(),
+    };
     let claims = history.claims.as_slice();
     out.extend_from_slice(tags::RESULT_MAGIC)?;
-    push_range(
-        alloc,
-        out,
-        calls,
-        replies,
-        claims,
-        0,
-        claims.len() as u64 + 1,
-    )?;
+    let all = Left { between, claims };
+    push_range(alloc, out, &all, 0, claims.len() as u64 + 1)?;
     push_record(out, tags::END, &[])?;
     Ok(())
 }

@@ -8,7 +8,7 @@ returns-in_err-extend_from_slice-clause-shows c = shows_all c.args.history.now c
 
 pub push_range-requires-clause-left : goal.push_range-requires-clause-left
 push_range-requires-clause-left c =
-    rw (c.as_slice-calls.ensures, c.as_slice-replies.ensures, c.as_slice-claims.ensures)
+    rw (c.as_slice.ensures, c.as_slice-2.ensures, c.as_slice-claims.ensures)
     (whole_left c.args._device.now c.args.history.now c.requires)
 
 pub returns-in_err-push_range-clause-shows : goal.returns-in_err-push_range-clause-shows
@@ -22,8 +22,8 @@ returns-clause-ok c =
     rw (
       c.in_ok-push_record.ensures.ok,
       c.in_ok-push_range.ensures.ok,
-      c.as_slice-calls.ensures,
-      c.as_slice-replies.ensures,
+      c.as_slice.ensures,
+      c.as_slice-2.ensures,
       c.as_slice-claims.ensures,
       c.in_ok-extend_from_slice.ensures.items,
     )
