@@ -17,7 +17,7 @@ ghost use Rattle.packet_writer.specs.Flags.{AreClosed};
 ghost use Rattle.packet_writer.specs.Packet.{Blocks};
 ghost use Rattle.serial_player.specs.Made.{AreBy, AreReady, IsBy, IsReady, all_made_by, made_by};
 ghost use Rattle.serial_player.specs.Made.{packet_length_of};
-ghost use Rattle.serial_player.specs.Sending.{SendsOn, TakesOn};
+ghost use Rattle.chan_io.specs.Streams.{SendsOn, TakesOn};
 ghost use Rattle.serial_player.specs.Written.{IsPrepared, IsWritten, IsWrittenInPart};
 ghost use Rattle.serial_player.specs.Written.{record_behind, text_by};
 

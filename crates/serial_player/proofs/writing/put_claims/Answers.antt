@@ -1,12 +1,13 @@
-use Rattle.std.proofs.Common.{◌≡◌, ◌<◌, ◌+◌, ◌++◌, [], ℕ, List, length, sym, ap}
-use Rattle.std.proofs.Common.{append_assoc, ◌∙◌, arith, rules}
+use Rattle.std.proofs.Common.{◌≡◌, ◌<◌, ◌+◌, ◌++◌, [], ℕ, List, length, sym, ap, append_assoc, ◌∙◌}
+use Rattle.std.proofs.Common.{arith, rules}
 use Rattle.std.specs.List.{flat_map, range_with_len}
 use Rattle.std.proofs.lemmas.List.{append-nil, get_or_default}
 use Rattle.list_laws.proofs.Ranges.{flat_map_more}
 use Rattle.capture_file.specs.Parts.{claim_bytes}
 use Rattle.serial_player.specs.Made.{all_made_by}
 use Rattle.serial_player.specs.Written.{record_behind}
-use Rattle.serial_player.proofs.Sends.{sends_takes, sends_then, takes_all, takes_then}
+use Rattle.chan_io.proofs.Sending.{sends_takes, sends_then, takes_then}
+use Rattle.serial_player.proofs.Sends.{takes_all}
 use Rattle.serial_player.proofs.writing.put_claims.Goals as goal
 
 pub returns-in_err-put-clause-prefix : goal.returns-in_err-put-clause-prefix

@@ -4,7 +4,7 @@ use Rattle.chan_io.specs.Outgoing.{waiting_bytes}
 use Rattle.map_entry.specs.declared.entry.Entry.{Entry}
 use Rattle.packet_writer.specs.Packet.{Blocks}
 use Rattle.serial_player.specs.Made.{AreBy, all_made_by}
-use Rattle.serial_player.specs.Sending.{SendsOn}
+use Rattle.chan_io.specs.Streams.{SendsOn}
 use Rattle.serial_player.specs.Written.{record_behind}
 use Rattle.serial_player.proofs.writing.put_claims.Given as goal
 

@@ -2,8 +2,7 @@ use Rattle.std.proofs.Common.{◌≡◌, [], length, ◌∙◌, get_or}
 use Rattle.std.proofs.lemmas.List.{get_or_default}
 use Rattle.capture_file.specs.Items.{end_text}
 use Rattle.serial_player.proofs.Hearing.{both_ok, on_ok}
-use Rattle.serial_player.proofs.Sends.{sends_then, sent_nothing, sent_whole, takes_longer}
-use Rattle.serial_player.proofs.Sends.{takes_then}
+use Rattle.chan_io.proofs.Sending.{sends_then, sent_nothing, sent_whole, takes_longer, takes_then}
 use Rattle.serial_player.proofs.writing.put_result.Goals as goal
 
 pub returns-in_err-put-clause-prefix : goal.returns-in_err-put-clause-prefix
