@@ -1,6 +1,6 @@
 //! How the body of a plain device record is read.
 
-ghost use Rattle.std.specs.Prelude.{◌≡◌, Some, IfOk};
+ghost use Rattle.std.specs.Prelude.{Some};
 ghost use Rattle.exact_text.specs.Readings.{Gives};
 ghost use Rattle.capture_file.specs.Device.{width, flag, channels, input, numbered, member};
 ghost use Rattle.capture_file.specs.Device.{routable, output, target, outputs_of, rows_of, ports};

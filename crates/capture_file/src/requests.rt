@@ -1,6 +1,5 @@
 //! How requests are read.
 
-ghost use Rattle.std.specs.Prelude.{◌≡◌};
 ghost use Rattle.exact_text.specs.Forms.{tested};
 ghost use Rattle.exact_text.specs.Readings.{Gives};
 ghost use Rattle.capture_file.specs.Requests.{cell, change, output_change, action, is_time};

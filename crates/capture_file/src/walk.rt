@@ -1,6 +1,6 @@
 //! Records one behind the other, up to a last one, with the place of the first fault.
 
-ghost use Rattle.std.specs.Prelude.{◌≡◌, ◌≤◌, ℕ, List, Result, IfOk, IfErr, length};
+ghost use Rattle.std.specs.Prelude.{◌≤◌, ℕ, List, Result, IfOk, IfErr, length};
 ghost use Rattle.capture_file.specs.declared.walk.Step.{Step};
 ghost use Rattle.capture_file.specs.Walk.{IfFault, IsJudged, EndsAt, FaultAt};
 

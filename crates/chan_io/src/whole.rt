@@ -1,6 +1,6 @@
 //! A source read to its end, and a whole text given to a sink.
 
-ghost use Rattle.std.specs.Prelude.{◌≡◌, ◌≤◌, ◌+◌, IfOk, OnOk, IsErrOf};
+ghost use Rattle.std.specs.Prelude.{◌≤◌, ◌+◌, IfOk, OnOk, IsErrOf};
 ghost use Rattle.std.specs.Io.KnownBytes.{Appends};
 ghost use Rattle.chan_io.specs.Causes.{Rose, HasCause};
 ghost use Rattle.chan_io.specs.Streams.{TakesPrefix, WholeRead, LongRead, BoundedRead};

@@ -7,7 +7,7 @@ ghost use Rattle.std.specs.List.{flat_map, range_with_len};
 ghost use Rattle.std.specs.Io.KnownBytes.{Appends};
 ghost use Rattle.chan_io.specs.Causes.{HasCause, Rose};
 ghost use Rattle.chan_io.specs.Outgoing.{waiting_bytes};
-ghost use Rattle.chan_io.specs.Streams.{TakesPrefix, TellsAlike};
+ghost use Rattle.chan_io.specs.Streams.{SendsOn, TakesOn, TakesPrefix, TellsAlike};
 ghost use Rattle.capture_file.specs.Capture.{IsCapture, capture_of};
 ghost use Rattle.capture_file.specs.Items.{item};
 ghost use Rattle.capture_file.specs.Parts.{claim_bytes};
@@ -17,15 +17,12 @@ ghost use Rattle.packet_writer.specs.Flags.{AreClosed};
 ghost use Rattle.packet_writer.specs.Packet.{Blocks};
 ghost use Rattle.serial_player.specs.Made.{AreBy, AreReady, IsBy, IsReady, all_made_by, made_by};
 ghost use Rattle.serial_player.specs.Made.{packet_length_of};
-ghost use Rattle.chan_io.specs.Streams.{SendsOn, TakesOn};
 ghost use Rattle.serial_player.specs.Written.{IsPrepared, IsWritten, IsWrittenInPart};
 ghost use Rattle.serial_player.specs.Written.{record_behind, text_by};
 
 use crate::claims::{AllClaims, OneClaim};
 use crate::player::{HistoryParts, make_parts};
-use capture_file::{
-    CLAIM_HEAD_LEN, Capture, Item, RESULT_MAGIC, end_record, write_between, write_claim_front,
-};
+use capture_file::{CLAIM_HEAD_LEN, Capture, Item, RESULT_MAGIC, end_record, write_between};
 use chan_io::{Failed, Outgoing, Sink};
 use io_caps::{Bytes, ListOf, NoMemory, Or};
 use map_entry::Setup;
