@@ -14,16 +14,16 @@ use Rattle.serial_player.specs.Serial.{blocks_of, packets_in}
 use Rattle.serial_player.specs.Table.{table_of}
 use Rattle.serial_player.specs.declared.player.HistoryParts.{HistoryParts}
 
--- the history that is made of them: each claim by all calls and over the blocks of all packets
+-- the history that is made of its parts: each claim by all calls and over the blocks of all packets
 abbrev pub history_by_parts : CaptureParts → HistoryParts → History
 history_by_parts c p =
     history_of
     (map (closed_claim c.setup p.journal (blocks_of c)) (range_with_len 0 (packets_in c)))
     p.journal p.replies
 
--- They are those of a capture: the history made of them is its serial one, and it fits its fields
--- where the records do. The table has the blocks of all packets, and the rows rule the claims by
--- all calls.
+-- These are the parts of a capture's history: the history made of them is its serial one, and it
+-- fits its fields where the records do. The table has the blocks of all packets, and the rows rule
+-- the claims by all calls.
 pub record AreHistoryParts (c : CaptureParts) (p : HistoryParts) : Type 0 where
   pub serial : IsSerial c (history_by_parts c p)
   pub fits : All item.Fits c.items → FitsHistory c.setup.device (history_by_parts c p)

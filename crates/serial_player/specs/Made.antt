@@ -14,7 +14,7 @@ use Rattle.io_caps.specs.declared.limits.TheConstants.{TICKS_PAST_BASE}
 
 -- ---- one claim
 
--- it can be made: its row and the table fit the device
+-- a claim can be made: its row and the table fit the device
 pub record IsReady (c : OneClaim) : Type 0 where
   pub claim : c.k < TICKS_PAST_BASE
   pub device : IsDevice c.setup.now.device
@@ -22,34 +22,35 @@ pub record IsReady (c : OneClaim) : Type 0 where
       (channels_of_output c.setup.now.device (output_of_claim c.setup.now c.k)) c.row.now
   pub table : IsTable c.setup.now.device c.table.now
 
--- its row is the one that a list of entries selects, and these are the blocks of its tick
+-- a claim's row is the one that a list of entries selects, and these are the blocks of its tick
 abbrev pub IsBy : OneClaim → List Entry → Blocks → Type 0
 IsBy c entries blocks =
     HasRow c.setup.now entries c.k c.row.now × HasTick c.setup.now c.table.now blocks c.k
 
--- the claim by a list of entries and over blocks
+-- a claim by a list of entries and over blocks
 abbrev pub made_by : OneClaim → List Entry → Blocks → ClaimItem
 made_by c entries blocks = claim_by c.setup.now entries blocks c.k
 
--- how many bytes its packet has
+-- how many bytes a claim's packet has
 abbrev pub packet_length_of : OneClaim → ℕ
 packet_length_of c = packet_length c.setup.now.device (output_of_claim c.setup.now c.k)
 
 -- ---- the first claims
 
--- they can be made: their rows and the table fit the device
+-- the first claims can be made: their rows and the table fit the device
 pub record AreReady (c : AllClaims) : Type 0 where
   pub claims : length c.rows.now ≤ TICKS_PAST_BASE
   pub device : IsDevice c.setup.now.device
   pub rows : RowsFitClaims c.setup.now 0 c.rows.now
   pub table : IsTable c.setup.now.device c.table.now
 
--- their rows are those that a list of entries selects, and these are the blocks of their ticks
+-- the rows of the first claims are those that a list of entries selects, and these are the blocks
+-- of their ticks
 abbrev pub AreBy : AllClaims → List Entry → Blocks → Type 0
 AreBy c entries blocks =
     HaveRows c.setup.now entries 0 c.rows.now
     × ((k : ℕ) → k < length c.rows.now → HasTick c.setup.now c.table.now blocks k)
 
--- each by a list of entries and over blocks
+-- each of the first claims by a list of entries and over blocks
 abbrev pub all_made_by : AllClaims → List Entry → Blocks → ℕ → ClaimItem
 all_made_by c entries blocks = claim_by c.setup.now entries blocks

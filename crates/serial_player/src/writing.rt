@@ -208,8 +208,9 @@ fn write_items<K: Sink>(
 }
 
 /// Gives a sink the result of a capture: the text that [`write_result`](capture_file::write_result)
-/// makes of its [`serial`](crate::serial) history, piece by piece as it is made. All memory is
-/// taken before the sink is given anything. Beside what a history is made of, that is one buffer.
+/// makes of its [`serial`](crate::serial) history, each packet as it is made. All memory is taken
+/// before the sink is given anything: beside what a history is made of, the bytes of the records
+/// between its claims, a flag for each input, and one buffer.
 pub fn write_serial<K: Sink>(
     alloc: Global,
     capture: &Capture,
