@@ -62,12 +62,14 @@ impl Outgoing {
     }
 
     /// Makes room for so many more bytes, where the buffer has so much: gives the sink what waits
-    /// if they'd find none beside it.
+    /// only if they'd find none beside it.
     pub fn make_room<K: Sink>(&mut self, sink: &mut K, count: usize) -> Result<(), Failed>
         ensures cause { HasCause (K.faults sink.old) (K.faults sink.new) result }
         ensures size { length self.new.buffer.items ≡ length self.old.buffer.items }
         ensures room { OnOk result (count ≤ length self.old.buffer.items
             → self.new.waiting + count ≤ length self.new.buffer.items) }
+        ensures quiet { self.old.waiting + count ≤ length self.old.buffer.items
+            → sink.new ≡ sink.old }
         ensures sent { OnOk result ((start : Option (List ℕ)) (text : List ℕ)
             → HasSent start (K.taken sink.old) (waiting_bytes self.old) text
             → HasSent start (K.taken sink.new) (waiting_bytes self.new) text) }
@@ -81,10 +83,12 @@ impl Outgoing {
         Ok(())
     }
 
-    /// Lets bytes wait behind those that do. The sink is given what the buffer has no room for.
+    /// Lets bytes wait behind those that do. The sink is called only where they find no room.
     pub fn put<K: Sink>(&mut self, sink: &mut K, bytes: &[u8]) -> Result<(), Failed>
         ensures cause { HasCause (K.faults sink.old) (K.faults sink.new) result }
         ensures size { length self.new.buffer.items ≡ length self.old.buffer.items }
+        ensures quiet { self.old.waiting + length bytes.now ≤ length self.old.buffer.items
+            → sink.new ≡ sink.old }
         ensures sent { OnOk result (SendsOn (K.taken sink.old) (waiting_bytes self.old)
             (K.taken sink.new) (waiting_bytes self.new) bytes.now) }
         ensures prefix { TakesOn (K.taken sink.old) (waiting_bytes self.old) (K.taken sink.new)
