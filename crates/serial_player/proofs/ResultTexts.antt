@@ -1,6 +1,6 @@
 -- The text that is put together piece by piece is the result of the serial history.
-use Rattle.std.proofs.Common.{◌≡◌, ℕ, ◌+◌, ◌<◌, List, [], ◌++◌, get_or, map, sym, ap, subst}
-use Rattle.std.proofs.Common.{zero-add, ◌∙◌, arith, Option, refl, length}
+use Rattle.std.proofs.Common.{◌≡◌, ℕ, ◌+◌, ◌<◌, List, [], ◌++◌, get_or, map, sym, ap, zero-add, ◌∙◌}
+use Rattle.std.proofs.Common.{arith, Option, refl, length}
 use Rattle.std.specs.List.{flat_map, range_with_len}
 use Rattle.std.proofs.lemmas.List.FromFn.{get_or-map-range_with_len}
 use Rattle.std.specs.Io.KnownBytes.{Appends}
@@ -18,7 +18,7 @@ use Rattle.plain_book.specs.declared.history.ReplyItem.{ReplyItem}
 use Rattle.plain_book.specs.History.{history_of}
 use Rattle.plain_book.specs.Journal.{entries_of}
 use Rattle.serial_player.specs.Written.{record_behind, text_by, IsPrepared, IsWritten}
-use Rattle.serial_player.specs.Written.{IsWrittenInPart}
+use Rattle.serial_player.specs.Written.{IsWrittenInPart, IsResultOf}
 use Rattle.serial_player.specs.Table.{BlockTable, HasTick}
 use Rattle.serial_player.specs.Claim.{HaveRows, claim_by}
 use Rattle.serial_player.specs.declared.writing.Prepared.{Prepared}
@@ -69,6 +69,26 @@ serial_text c p is =
     ∙ text_is c.setup.device claims (packets_in c) journal p.parts.replies p.between
     (λ k. refl) is.between
 
+-- so is the text of its rows, its table and what stands between its claims
+result_is : (c : CaptureParts) (p : Prepared) (rows : List (List Cell)) (between : List (List ℕ))
+    → IsCapture c → IsPrepared c p → rows ≡ p.parts.rows → between ≡ p.between
+    → IsResultOf c (prepared_text c p.parts.journal between (length rows))
+result_is c p rows between capture is rows_same between_same =
+    let journal = p.parts.journal in
+    let history = history_by_parts c p.parts in
+    let serial = is.parts_are.serial in
+    record {
+      history = history;
+      serial = serial;
+      begun = closed_keeps c serial.turns history capture.setup serial.legal;
+      fits = is.fits;
+      shows = shows_all history is.fits.whole;
+      written = ap (λ (n : ℕ). prepared_text c journal between n) (ap length rows_same)
+          ∙ ap (λ (b : List (List ℕ)). prepared_text c journal b (length p.parts.rows))
+          between_same
+          ∙ serial_text c p is;
+    }
+
 -- a sink took all of it
 pub written_is : (c : CaptureParts) (p : Prepared) (rows : List (List Cell)) (table : BlockTable)
     (between : List (List ℕ)) (old new : Option (List ℕ)) → IsCapture c → IsPrepared c p
@@ -83,19 +103,11 @@ written_is c p rows table between old new capture is rows_same table_same betwee
     let told =
     took (entries_of c.setup journal) (blocks_of c)
     (all_made c p.parts rows table capture is.parts_are rows_same table_same) in
-    let text = ap (λ (n : ℕ). prepared_text c journal between n) (ap length rows_same)
-    ∙ ap (λ (b : List (List ℕ)). prepared_text c journal b (length p.parts.rows)) between_same
-    ∙ serial_text c p is in
-    let serial = is.parts_are.serial in
     record {
-      history = history_by_parts c p.parts;
-      serial = serial;
-      begun = closed_keeps c serial.turns (history_by_parts c p.parts) capture.setup
-          serial.legal;
-      fits = is.fits;
-      shows = shows_all (history_by_parts c p.parts) is.fits.whole;
+      text = prepared_text c journal between (length rows);
+      result = result_is c p rows between capture is rows_same between_same;
       alike = told.0;
-      took = subst (Appends old new) text told.1;
+      took = told.1;
     }
 
 -- or a front of it
@@ -108,19 +120,9 @@ pub cut_short_is : (c : CaptureParts) (p : Prepared) (rows : List (List Cell)) (
     → IsWrittenInPart c old new
 cut_short_is c p rows table between old new capture is rows_same table_same between_same took =
     let journal = p.parts.journal in
-    let told =
-    took (entries_of c.setup journal) (blocks_of c)
-    (all_made c p.parts rows table capture is.parts_are rows_same table_same) in
-    let text = ap (λ (n : ℕ). prepared_text c journal between n) (ap length rows_same)
-    ∙ ap (λ (b : List (List ℕ)). prepared_text c journal b (length p.parts.rows)) between_same
-    ∙ serial_text c p is in
-    let serial = is.parts_are.serial in
     record {
-      history = history_by_parts c p.parts;
-      serial = serial;
-      begun = closed_keeps c serial.turns (history_by_parts c p.parts) capture.setup
-          serial.legal;
-      fits = is.fits;
-      shows = shows_all (history_by_parts c p.parts) is.fits.whole;
-      took = subst (TakesPrefix old new) text told;
+      text = prepared_text c journal between (length rows);
+      result = result_is c p rows between capture is rows_same between_same;
+      took = took (entries_of c.setup journal) (blocks_of c)
+          (all_made c p.parts rows table capture is.parts_are rows_same table_same);
     }

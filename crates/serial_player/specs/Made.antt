@@ -1,9 +1,10 @@
 -- Claims before they are made, and what is made of them. (This project's own.)
-use Rattle.std.specs.Prelude.{ℕ, ◌<◌, List, length}
-use Rattle.std.proofs.Common.{◌≤◌}
+use Rattle.std.specs.Prelude.{ℕ, ◌<◌, List, length, ◌≤◌, Bool, map, ◌≡◌}
+use Rattle.std.specs.List.{range_with_len}
 use Rattle.map_entry.specs.declared.entry.Entry.{Entry}
 use Rattle.map_entry.specs.Row.{channels_of_output}
-use Rattle.packet_writer.specs.Packet.{Blocks, output_of_claim, packet_length, RowFits}
+use Rattle.packet_writer.specs.Packet.{Blocks, packet_by, output_of_claim, packet_length, RowFits}
+use Rattle.packet_writer.specs.Flags.{AreClosed}
 use Rattle.plain_book.specs.declared.history.ClaimItem.{ClaimItem}
 use Rattle.serial_player.specs.Claim.{HasRow, HaveRows, claim_by, RowsFitClaims}
 use Rattle.serial_player.specs.Table.{HasTick, IsTable}
@@ -11,6 +12,7 @@ use Rattle.serial_player.specs.declared.claims.AllClaims.{AllClaims}
 use Rattle.serial_player.specs.declared.claims.OneClaim.{OneClaim}
 use Rattle.io_caps.specs.Device.{IsDevice}
 use Rattle.io_caps.specs.declared.limits.TheConstants.{TICKS_PAST_BASE}
+use Rattle.capture_file.specs.Parts.{claim_bytes}
 
 -- ---- one claim
 
@@ -35,6 +37,33 @@ made_by c entries blocks = claim_by c.setup.now entries blocks c.k
 abbrev pub packet_length_of : OneClaim → ℕ
 packet_length_of c = packet_length c.setup.now.device (output_of_claim c.setup.now c.k)
 
+-- What is said of a claim holds whatever list of entries and blocks it is by: these are the flags
+-- of the blocks that its packet finds,
+abbrev pub AreFlagsOf : OneClaim → List Bool → Type 0
+AreFlagsOf c found =
+    (entries : List Entry) (blocks : Blocks) → IsBy c entries blocks
+    → AreClosed c.setup.now entries blocks c.k found
+
+-- these bytes are its packet,
+abbrev pub IsPacketOf : OneClaim → List ℕ → Type 0
+IsPacketOf c packet =
+    (entries : List Entry) (blocks : Blocks) (found : List Bool) → IsBy c entries blocks
+    → AreClosed c.setup.now entries blocks c.k found
+    → packet ≡ packet_by c.setup.now entries blocks found c.k
+
+-- this is the claim,
+abbrev pub IsClaimOf : OneClaim → ClaimItem → Type 0
+IsClaimOf c made =
+    (entries : List Entry) (blocks : Blocks) → IsBy c entries blocks
+    → made ≡ made_by c entries blocks
+
+-- and this is its record, where these are its flags.
+abbrev pub IsRecordOf : OneClaim → List Bool → List ℕ → Type 0
+IsRecordOf c found bytes =
+    (entries : List Entry) (blocks : Blocks) → IsBy c entries blocks
+    → AreClosed c.setup.now entries blocks c.k found
+    → bytes ≡ claim_bytes (made_by c entries blocks)
+
 -- ---- the first claims
 
 -- the first claims can be made: their rows and the table fit the device
@@ -54,3 +83,18 @@ AreBy c entries blocks =
 -- each of the first claims by a list of entries and over blocks
 abbrev pub all_made_by : AllClaims → List Entry → Blocks → ℕ → ClaimItem
 all_made_by c entries blocks = claim_by c.setup.now entries blocks
+
+-- these are the first claims, whatever list of entries and blocks they are by
+abbrev pub AreClaimsOf : AllClaims → List ClaimItem → Type 0
+AreClaimsOf c made =
+    (entries : List Entry) (blocks : Blocks) → AreBy c entries blocks
+    → made ≡ map (all_made_by c entries blocks) (range_with_len 0 (length c.rows.now))
+
+-- one of the first claims is by what they all are by, and is the one of its number
+pub record IsOneOf (all : AllClaims) (k : ℕ) (c : OneClaim) : Type 0 where
+  pub ready : IsReady c
+  pub setup : c.setup.now ≡ all.setup.now
+  pub by : (entries : List Entry) (blocks : Blocks) → AreBy all entries blocks
+      → IsBy c entries blocks
+  pub made : (entries : List Entry) (blocks : Blocks)
+      → made_by c entries blocks ≡ all_made_by all entries blocks k

@@ -1,9 +1,11 @@
 -- How the result of a capture is given to a sink. (This project's own.)
 use Rattle.std.specs.Prelude.{◌≡◌, ℕ, ◌+◌, List, [], ◌++◌, length, map, slice_index_or, Option}
+use Rattle.std.specs.Prelude.{Bool, ◌<◌}
 use Rattle.std.specs.Io.KnownBytes.{Appends}
 use Rattle.std.specs.List.{flat_map, range_with_len}
 use Rattle.chan_io.specs.Outgoing.{waiting_bytes}
-use Rattle.chan_io.specs.Streams.{TakesPrefix, TellsAlike}
+use Rattle.chan_io.specs.Streams.{TakesPrefix, TellsAlike, SendsOn, TakesOn}
+use Rattle.chan_io.specs.declared.outgoing.Outgoing.{Outgoing}
 use Rattle.capture_file.specs.Capture.{CaptureParts}
 use Rattle.capture_file.specs.Items.{end_text}
 use Rattle.capture_file.specs.Parts.{between_bytes, claim_bytes}
@@ -16,6 +18,11 @@ use Rattle.serial_player.specs.HistoryParts.{AreHistoryParts, history_by_parts}
 use Rattle.serial_player.specs.Serial.{packets_in}
 use Rattle.serial_player.specs.declared.writing.Prepared.{Prepared}
 use Rattle.serial_player.specs.declared.writing.TheConstants.{BUFFER_LEN}
+use Rattle.serial_player.specs.declared.claims.AllClaims.{AllClaims}
+use Rattle.serial_player.specs.Made.{AreBy, AreReady, IsBy, all_made_by, made_by}
+use Rattle.serial_player.specs.declared.claims.OneClaim.{OneClaim}
+use Rattle.packet_writer.specs.Packet.{Blocks}
+use Rattle.map_entry.specs.declared.entry.Entry.{Entry}
 
 -- ---- the text
 
@@ -29,6 +36,57 @@ text_by between claim_of claims =
     result_magic
     ++ (flat_map (record_behind between claim_of) (range_with_len 0 claims)
     ++ (slice_index_or between claims [] ++ end_text))
+
+-- ---- on its way to a sink, whatever list of entries and blocks the claims are by
+
+-- a claim's record goes on to a sink
+abbrev pub SendsClaim : OneClaim → Option (List ℕ) → List ℕ → Option (List ℕ) → List ℕ → Type 0
+SendsClaim c old old_waiting new new_waiting =
+    (entries : List Entry) (blocks : Blocks) → IsBy c entries blocks
+    → SendsOn old old_waiting new new_waiting (claim_bytes (made_by c entries blocks))
+
+-- the records of the first claims, each behind what stands between it and the claim before it
+abbrev pub records_of_all : AllClaims → List (List ℕ) → List Entry → Blocks → List ℕ
+records_of_all c between entries blocks =
+    flat_map (record_behind between (all_made_by c entries blocks))
+    (range_with_len 0 (length c.rows.now))
+
+-- they go on to a sink
+abbrev pub SendsClaims : AllClaims → List (List ℕ) → Option (List ℕ) → List ℕ → Option (List ℕ)
+    → List ℕ → Type 0
+SendsClaims c between old old_waiting new new_waiting =
+    (entries : List Entry) (blocks : Blocks) → AreBy c entries blocks
+    → SendsOn old old_waiting new new_waiting (records_of_all c between entries blocks)
+
+-- a sink took a front of what went on before and of them
+abbrev pub TakesClaims : AllClaims → List (List ℕ) → Option (List ℕ) → List ℕ → Option (List ℕ)
+    → Type 0
+TakesClaims c between old old_waiting new =
+    (entries : List Entry) (blocks : Blocks) → AreBy c entries blocks
+    → TakesOn old old_waiting new (records_of_all c between entries blocks)
+
+-- a sink took the whole text
+abbrev pub TakesText : AllClaims → List (List ℕ) → Option (List ℕ) → Option (List ℕ) → Type 0
+TakesText c between old new =
+    (entries : List Entry) (blocks : Blocks) → AreBy c entries blocks
+    → TellsAlike old new
+    × Appends old new (text_by between (all_made_by c entries blocks) (length c.rows.now))
+
+-- or a front of it
+abbrev pub TakesTextInPart : AllClaims → List (List ℕ) → Option (List ℕ) → Option (List ℕ)
+    → Type 0
+TakesTextInPart c between old new =
+    (entries : List Entry) (blocks : Blocks) → AreBy c entries blocks
+    → TakesPrefix old new (text_by between (all_made_by c entries blocks) (length c.rows.now))
+
+-- The first claims can be given to a sink: they can be made, there is what stands between them and
+-- behind the last one, a flag for each input, and a buffer of `BUFFER_LEN` bytes.
+pub record CanBePut (c : AllClaims) (between : List (List ℕ)) (found : List Bool) (out : Outgoing)
+    : Type 0 where
+  pub ready : AreReady c
+  pub between_all : length c.rows.now < length between
+  pub flags : length found ≡ length c.setup.now.device.inputs
+  pub size : length out.buffer.items ≡ BUFFER_LEN
 
 -- ---- what it is written from
 
@@ -45,23 +103,26 @@ pub record IsPrepared (c : CaptureParts) (p : Prepared) : Type 0 where
 
 -- ---- what a sink took
 
--- A sink took the result of a capture: the text of its serial history, of which nothing is left
--- out, and each part of which is what some record of a result is read as. The history is legal, and
--- in it no activation changes a tick that has begun.
-pub record IsWritten (c : CaptureParts) (old new : Option (List ℕ)) : Type 0 where
+-- This text is the result of a capture: that of its serial history, of which nothing is left out,
+-- and each part of which is what some record of a result is read as. The history is legal, and in
+-- it no activation changes a tick that has begun.
+pub record IsResultOf (c : CaptureParts) (text : List ℕ) : Type 0 where
   pub history : History
   pub serial : IsSerial c history
   pub begun : KeepsBegunTicks c history
   pub fits : FitsHistory c.setup.device history
   pub shows : ShowsAll history
-  pub alike : TellsAlike old new
-  pub took : Appends old new (result_text c.setup.device history)
+  pub written : text ≡ result_text c.setup.device history
 
--- A sink took a front of the result of a capture, maybe none or all of it.
+-- a sink took the result of a capture
+pub record IsWritten (c : CaptureParts) (old new : Option (List ℕ)) : Type 0 where
+  pub text : List ℕ
+  pub result : IsResultOf c text
+  pub alike : TellsAlike old new
+  pub took : Appends old new text
+
+-- a sink took a front of the result of a capture, maybe none or all of it
 pub record IsWrittenInPart (c : CaptureParts) (old new : Option (List ℕ)) : Type 0 where
-  pub history : History
-  pub serial : IsSerial c history
-  pub begun : KeepsBegunTicks c history
-  pub fits : FitsHistory c.setup.device history
-  pub shows : ShowsAll history
-  pub took : TakesPrefix old new (result_text c.setup.device history)
+  pub text : List ℕ
+  pub result : IsResultOf c text
+  pub took : TakesPrefix old new text

@@ -1,13 +1,8 @@
 //! The claims of a history.
 
-ghost use Rattle.std.specs.Prelude.{◌≡◌, ◌<◌, ◌+◌, Bool, IfOk, List, length, map};
-ghost use Rattle.std.specs.List.{range_with_len};
-ghost use Rattle.capture_file.specs.Parts.{claim_bytes};
-ghost use Rattle.map_entry.specs.declared.entry.Entry.{Entry};
-ghost use Rattle.packet_writer.specs.Flags.{AreClosed};
-ghost use Rattle.packet_writer.specs.Packet.{Blocks, packet_by};
-ghost use Rattle.serial_player.specs.Made.{AreBy, AreReady, IsBy, IsReady, all_made_by, made_by};
-ghost use Rattle.serial_player.specs.Made.{packet_length_of};
+ghost use Rattle.std.specs.Prelude.{◌≡◌, ◌<◌, ◌+◌, IfOk, length};
+ghost use Rattle.serial_player.specs.Made.{AreClaimsOf, AreFlagsOf, AreReady, IsClaimOf, IsOneOf};
+ghost use Rattle.serial_player.specs.Made.{IsPacketOf, IsReady, IsRecordOf, packet_length_of};
 ghost use Rattle.serial_player.specs.Table.{place_of_claim};
 
 use crate::blocks::TickOf;
@@ -41,12 +36,7 @@ impl<'a> AllClaims<'a> {
     pub(crate) fn claim(&self, k: usize) -> OneClaim<'a>
         requires ready { AreReady self.now }
         requires there { k < length self.now.rows.now }
-        ensures ready { IsReady result }
-        ensures setup { result.setup.now ≡ self.now.setup.now }
-        ensures by { (entries : List Entry) (blocks : Blocks) → AreBy self.now entries blocks
-            → IsBy result entries blocks }
-        ensures made { (entries : List Entry) (blocks : Blocks)
-            → made_by result entries blocks ≡ all_made_by self.now entries blocks k }
+        ensures { IsOneOf self.now k result }
     {
         OneClaim {
             setup: self.setup,
@@ -59,10 +49,7 @@ impl<'a> AllClaims<'a> {
     /// Makes them.
     pub(crate) fn make(&self, alloc: Global) -> Result<ClaimItems, NoMemory>
         requires { AreReady self.now }
-        ensures { IfOk result (λ made. (entries : List Entry) (blocks : Blocks)
-            → AreBy self.now entries blocks
-            → made ≡ map (all_made_by self.now entries blocks)
-            (range_with_len 0 (length self.now.rows.now))) }
+        ensures { IfOk result (AreClaimsOf self.now) }
     {
         let mut made = ClaimItems::new(alloc);
         for k in 0..self.rows.len() {
@@ -98,8 +85,7 @@ impl<'a> OneClaim<'a> {
     pub(crate) fn set_found(&self, found: &mut [bool])
         requires { length found.old ≡ length self.now.setup.now.device.inputs }
         ensures len { length found.new ≡ length found.old }
-        ensures closed { (entries : List Entry) (blocks : Blocks) → IsBy self.now entries blocks
-            → AreClosed self.now.setup.now entries blocks self.now.k found.new }
+        ensures flags { AreFlagsOf self.now found.new }
     {
         let setup = self.setup;
         mark_named(&OneRow::new(self.row), setup.device.rate().frames, found);
@@ -110,9 +96,7 @@ impl<'a> OneClaim<'a> {
 
     /// Of which inputs its packet finds a block.
     fn flags(&self, alloc: Global) -> Result<Flags, NoMemory>
-        ensures { IfOk result (λ made. (entries : List Entry) (blocks : Blocks)
-            → IsBy self.now entries blocks
-            → AreClosed self.now.setup.now entries blocks self.now.k made) }
+        ensures { IfOk result (AreFlagsOf self.now) }
     {
         let setup = self.setup;
         let mut made = vec![in alloc; false; setup.device.inputs() as usize]?;
@@ -124,10 +108,7 @@ impl<'a> OneClaim<'a> {
     fn fill_packet(&self, out: &mut [u8])
         requires ready { IsReady self.now }
         requires room { length out.old ≡ packet_length_of self.now }
-        ensures { (entries : List Entry) (blocks : Blocks) (found : List Bool)
-            → IsBy self.now entries blocks
-            → AreClosed self.now.setup.now entries blocks self.now.k found
-            → out.new ≡ packet_by self.now.setup.now entries blocks found self.now.k }
+        ensures { IsPacketOf self.now out.new }
     {
         write_claim(
             &mut self.tick(),
@@ -141,10 +122,7 @@ impl<'a> OneClaim<'a> {
     /// Its packet.
     fn packet(&self, alloc: Global) -> Result<Bytes, NoMemory>
         requires { IsReady self.now }
-        ensures { IfOk result (λ made. (entries : List Entry) (blocks : Blocks) (found : List Bool)
-            → IsBy self.now entries blocks
-            → AreClosed self.now.setup.now entries blocks self.now.k found
-            → made ≡ packet_by self.now.setup.now entries blocks found self.now.k) }
+        ensures { IfOk result (IsPacketOf self.now) }
     {
         let mut made = vec![in alloc; 0u8; self.packet_len()]?;
         self.fill_packet(made.as_mut_slice());
@@ -154,8 +132,7 @@ impl<'a> OneClaim<'a> {
     /// Makes it.
     fn make(&self, alloc: Global) -> Result<ClaimItem, NoMemory>
         requires { IsReady self.now }
-        ensures { IfOk result (λ made. (entries : List Entry) (blocks : Blocks)
-            → IsBy self.now entries blocks → made ≡ made_by self.now entries blocks) }
+        ensures { IfOk result (IsClaimOf self.now) }
     {
         let found = self.flags(alloc)?;
         let packet = self.packet(alloc)?;
@@ -169,9 +146,7 @@ impl<'a> OneClaim<'a> {
         requires found { length found.now ≡ length self.now.setup.now.device.inputs }
         requires room { length out.old
             ≡ CLAIM_HEAD_LEN + length found.now + packet_length_of self.now }
-        ensures { (entries : List Entry) (blocks : Blocks) → IsBy self.now entries blocks
-            → AreClosed self.now.setup.now entries blocks self.now.k found.now
-            → out.new ≡ claim_bytes (made_by self.now entries blocks) }
+        ensures { IsRecordOf self.now found.now out.new }
     {
         let (front, packet) = out.split_at_mut(CLAIM_HEAD_LEN + found.len());
         write_claim_front(front, self.k, found, packet.len());

@@ -1,24 +1,18 @@
 //! The result of a capture, given to a sink piece by piece: each packet is made in the buffer,
 //! behind the front of its record.
 
-ghost use Rattle.std.specs.Prelude.{◌≡◌, ◌≤◌, ◌<◌, ◌+◌, ◌++◌, [], All, IfErr, IfOk, List, OnOk};
+ghost use Rattle.std.specs.Prelude.{◌≡◌, ◌≤◌, ◌+◌, ◌++◌, [], ℕ, All, IfErr, IfOk, List, OnOk};
 ghost use Rattle.std.specs.Prelude.{length, take};
-ghost use Rattle.std.specs.List.{flat_map, range_with_len};
-ghost use Rattle.std.specs.Io.KnownBytes.{Appends};
 ghost use Rattle.chan_io.specs.Causes.{HasCause, Rose};
 ghost use Rattle.chan_io.specs.Outgoing.{waiting_bytes};
-ghost use Rattle.chan_io.specs.Streams.{SendsOn, TakesOn, TakesPrefix, TellsAlike};
+ghost use Rattle.chan_io.specs.Streams.{TakesOn};
 ghost use Rattle.capture_file.specs.Capture.{IsCapture, capture_of};
 ghost use Rattle.capture_file.specs.Items.{item};
-ghost use Rattle.capture_file.specs.Parts.{claim_bytes};
 ghost use Rattle.capture_file.specs.Walk.{IfFault, IfNoMemory};
-ghost use Rattle.map_entry.specs.declared.entry.Entry.{Entry};
-ghost use Rattle.packet_writer.specs.Flags.{AreClosed};
-ghost use Rattle.packet_writer.specs.Packet.{Blocks};
-ghost use Rattle.serial_player.specs.Made.{AreBy, AreReady, IsBy, IsReady, all_made_by, made_by};
-ghost use Rattle.serial_player.specs.Made.{packet_length_of};
-ghost use Rattle.serial_player.specs.Written.{IsPrepared, IsWritten, IsWrittenInPart};
-ghost use Rattle.serial_player.specs.Written.{record_behind, text_by};
+ghost use Rattle.serial_player.specs.Made.{IsReady, IsRecordOf, packet_length_of};
+ghost use Rattle.serial_player.specs.Written.{CanBePut, IsPrepared, IsWritten, IsWrittenInPart};
+ghost use Rattle.serial_player.specs.Written.{SendsClaim, SendsClaims, TakesClaims, TakesText};
+ghost use Rattle.serial_player.specs.Written.{TakesTextInPart};
 
 use crate::claims::{AllClaims, OneClaim};
 use crate::player::{HistoryParts, make_parts};
@@ -39,10 +33,8 @@ fn write_record_at(of: &OneClaim, found: &[bool], buffer: &mut [u8], at: usize, 
     requires found { length found.now ≡ length of.now.setup.now.device.inputs }
     requires len { len ≡ CLAIM_HEAD_LEN + length found.now + packet_length_of of.now }
     requires room { at + len ≤ length buffer.old }
-    ensures { (entries : List Entry) (blocks : Blocks) → IsBy of.now entries blocks
-        → AreClosed of.now.setup.now entries blocks of.now.k found.now
-        → take (at + len) buffer.new
-        ≡ take at buffer.old ++ claim_bytes (made_by of.now entries blocks) }
+    ensures { (bytes : List ℕ) × IsRecordOf of.now found.now bytes
+        × (take (at + len) buffer.new ≡ take at buffer.old ++ bytes) }
 {
     let (_, room) = buffer.split_at_mut(at);
     of.write_record(found, &mut room[..len]);
@@ -61,10 +53,8 @@ fn put_claim<K: Sink>(
     ensures cause { HasCause (K.faults sink.old) (K.faults sink.new) result }
     ensures found { length found.new ≡ length found.old }
     ensures size { length out.new.buffer.items ≡ length out.old.buffer.items }
-    ensures sent { OnOk result ((entries : List Entry) (blocks : Blocks)
-        → IsBy of.now entries blocks
-        → SendsOn (K.taken sink.old) (waiting_bytes out.old) (K.taken sink.new)
-        (waiting_bytes out.new) (claim_bytes (made_by of.now entries blocks))) }
+    ensures sent { OnOk result (SendsClaim of.now (K.taken sink.old) (waiting_bytes out.old)
+        (K.taken sink.new) (waiting_bytes out.new)) }
     ensures prefix { TakesOn (K.taken sink.old) (waiting_bytes out.old) (K.taken sink.new) [] }
 {
     of.set_found(found);
@@ -84,22 +74,13 @@ fn put_claims<K: Sink>(
     out: &mut Outgoing,
     sink: &mut K,
 ) -> Result<(), Failed>
-    requires ready { AreReady claims.now }
-    requires between { length claims.now.rows.now < length between.now }
-    requires found { length found.old ≡ length claims.now.setup.now.device.inputs }
-    requires size { length out.old.buffer.items ≡ BUFFER_LEN }
+    requires { CanBePut claims.now between.now found.old out.old }
     ensures cause { HasCause (K.faults sink.old) (K.faults sink.new) result }
     ensures size { length out.new.buffer.items ≡ length out.old.buffer.items }
-    ensures sent { OnOk result ((entries : List Entry) (blocks : Blocks)
-        → AreBy claims.now entries blocks
-        → SendsOn (K.taken sink.old) (waiting_bytes out.old) (K.taken sink.new)
-        (waiting_bytes out.new)
-        (flat_map (record_behind between.now (all_made_by claims.now entries blocks))
-        (range_with_len 0 (length claims.now.rows.now)))) }
-    ensures prefix { (entries : List Entry) (blocks : Blocks) → AreBy claims.now entries blocks
-        → TakesOn (K.taken sink.old) (waiting_bytes out.old) (K.taken sink.new)
-        (flat_map (record_behind between.now (all_made_by claims.now entries blocks))
-        (range_with_len 0 (length claims.now.rows.now))) }
+    ensures sent { OnOk result (SendsClaims claims.now between.now (K.taken sink.old)
+        (waiting_bytes out.old) (K.taken sink.new) (waiting_bytes out.new)) }
+    ensures prefix { TakesClaims claims.now between.now (K.taken sink.old)
+        (waiting_bytes out.old) (K.taken sink.new) }
 {
     for k in 0..claims.rows.len() {
         out.put(sink, between[k].as_slice())?;
@@ -117,22 +98,13 @@ fn put_result<K: Sink>(
     out: &mut Outgoing,
     sink: &mut K,
 ) -> Result<(), Failed>
-    requires ready { AreReady claims.now }
-    requires between { length claims.now.rows.now < length between.now }
-    requires found { length found.old ≡ length claims.now.setup.now.device.inputs }
-    requires size { length out.old.buffer.items ≡ BUFFER_LEN }
+    requires ready { CanBePut claims.now between.now found.old out.old }
     requires waiting { waiting_bytes out.old ≡ [] }
     ensures cause { HasCause (K.faults sink.old) (K.faults sink.new) result }
-    ensures ok { OnOk result ((entries : List Entry) (blocks : Blocks)
-        → AreBy claims.now entries blocks
-        → TellsAlike (K.taken sink.old) (K.taken sink.new)
-        × Appends (K.taken sink.old) (K.taken sink.new)
-        (text_by between.now (all_made_by claims.now entries blocks)
-        (length claims.now.rows.now))) }
-    ensures prefix { (entries : List Entry) (blocks : Blocks) → AreBy claims.now entries blocks
-        → TakesPrefix (K.taken sink.old) (K.taken sink.new)
-        (text_by between.now (all_made_by claims.now entries blocks)
-        (length claims.now.rows.now)) }
+    ensures ok { OnOk result (TakesText claims.now between.now (K.taken sink.old)
+        (K.taken sink.new)) }
+    ensures prefix { TakesTextInPart claims.now between.now (K.taken sink.old)
+        (K.taken sink.new) }
 {
     out.put(sink, RESULT_MAGIC)?;
     put_claims(claims, between, found, out, sink)?;

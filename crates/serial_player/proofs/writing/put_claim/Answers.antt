@@ -7,12 +7,14 @@ use Rattle.serial_player.proofs.writing.put_claim.Goals as goal
 
 pub returns-clause-sent : goal.returns-clause-sent
 returns-clause-sent g c = λ entries blocks by start text h.
-    let closed = c.set_found.ensures.closed entries blocks by in
+    let flags = c.set_found.ensures.flags entries blocks by in
     let made = claim_bytes (made_by c.args.of.now entries blocks) in
     let sent = sent_later start _ _ text made (c.in_ok-make_room.ensures.sent start text h) in
     rw (
       with_items_is c.make_room.new.self.buffer c.write_record_at.new.buffer
           (search (rules, places)),
-      c.write_record_at.ensures entries blocks by closed,
+      c.write_record_at.ensures.2,
+      c.write_record_at.ensures.1 entries blocks by flags,
       c.deref_mut.ensures.value,
-    ) sent
+    )
+    sent

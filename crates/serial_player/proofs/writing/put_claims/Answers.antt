@@ -16,7 +16,7 @@ returns-in_err-put-clause-prefix g c = λ entries blocks are.
     let claims = all_made_by c.args.claims.now entries blocks in
     let f = record_behind c.args.between.now claims in
     let within : k < length c.args.between.now =
-    omega (arith, c.requires.between, c.loop-k-test.true) in
+    omega (arith, c.requires.between_all, c.loop-k-test.true) in
     let behind : f k ≡ c.as_slice.result.now ++ claim_bytes (claims k) =
     ap (λ (z : List ℕ). z ++ claim_bytes (claims k)) (sym (c.as_slice.ensures
     ∙ c.index-between-k.is ∙ get_or_default c.args.between.now k _ [] within)) in
@@ -31,7 +31,7 @@ returns-in_err-put_claim-clause-prefix g c = λ entries blocks are.
     let claims = all_made_by c.args.claims.now entries blocks in
     let f = record_behind c.args.between.now claims in
     let within : k < length c.args.between.now =
-    omega (arith, c.requires.between, c.loop-k-test.true) in
+    omega (arith, c.requires.between_all, c.loop-k-test.true) in
     let behind : f k ≡ c.as_slice.result.now ++ claim_bytes (claims k) =
     ap (λ (z : List ℕ). z ++ claim_bytes (claims k)) (sym (c.as_slice.ensures
     ∙ c.index-between-k.is ∙ get_or_default c.args.between.now k _ [] within)) in
@@ -58,7 +58,7 @@ loop-k-preserved g c =
           let claims = all_made_by c.args.claims.now entries blocks in
           let f = record_behind c.args.between.now claims in
           let within : k < length c.args.between.now =
-          omega (arith, c.requires.between, c.loop-k-test.true) in
+          omega (arith, c.requires.between_all, c.loop-k-test.true) in
           let behind : c.as_slice.result.now ++ claim_bytes (claims k) ≡ f k =
           ap (λ (z : List ℕ). z ++ claim_bytes (claims k)) (c.as_slice.ensures
           ∙ c.index-between-k.is ∙ get_or_default c.args.between.now k _ [] within) in

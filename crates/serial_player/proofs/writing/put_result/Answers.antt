@@ -22,7 +22,7 @@ returns-in_err-put-2-clause-prefix g c = λ entries blocks are.
     (length c.args.claims.now.rows.now) [] =
     c.as_slice.ensures ∙ c.index-between-claims.is
     ∙ get_or_default c.args.between.now (length c.args.claims.now.rows.now) _ []
-    c.requires.between in
+    c.requires.ready.between_all in
     let takes = takes_longer _ _ _ _ end_text c.in_err-put-2.ensures.prefix in
     takes_then _ _ _ _ _ _ _ c.in_ok-put.ensures.sent
     (takes_then _ _ _ _ _ _ _ (c.in_ok-put_claims.ensures.sent entries blocks are)
@@ -34,7 +34,7 @@ returns-in_err-put-3-clause-prefix g c = λ entries blocks are.
     (length c.args.claims.now.rows.now) [] =
     c.as_slice.ensures ∙ c.index-between-claims.is
     ∙ get_or_default c.args.between.now (length c.args.claims.now.rows.now) _ []
-    c.requires.between in
+    c.requires.ready.between_all in
     let sent = rw between at c.in_ok-put-2.ensures.sent in
     let takes = rw c.end_record.ensures at c.in_err-put-3.ensures.prefix in
     takes_then _ _ _ _ _ _ _ c.in_ok-put.ensures.sent
@@ -48,7 +48,7 @@ returns-clause-ok g c =
     (length c.args.claims.now.rows.now) [] =
     c.as_slice.ensures ∙ c.index-between-claims.is
     ∙ get_or_default c.args.between.now (length c.args.claims.now.rows.now) _ []
-    c.requires.between in
+    c.requires.ready.between_all in
     let sent = rw between at c.in_ok-put-2.ensures.sent in
     let last = rw c.end_record.ensures at c.in_ok-put-3.ensures.sent in
     sent_whole _ _ _ _ flushed.0 (flushed.1 _ _
@@ -63,7 +63,7 @@ returns-clause-prefix g c = λ entries blocks are.
     (length c.args.claims.now.rows.now) [] =
     c.as_slice.ensures ∙ c.index-between-claims.is
     ∙ get_or_default c.args.between.now (length c.args.claims.now.rows.now) _ []
-    c.requires.between in
+    c.requires.ready.between_all in
     let sent = rw between at c.in_ok-put-2.ensures.sent in
     let last = rw c.end_record.ensures at c.in_ok-put-3.ensures.sent in
     c.flush.ensures.prefix _ _

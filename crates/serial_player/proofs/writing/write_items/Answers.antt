@@ -9,12 +9,6 @@ use Rattle.serial_player.proofs.writing.write_items.Goals as goal
 
 pub put_result-requires-clause-ready : goal.put_result-requires-clause-ready
 put_result-requires-clause-ready g c =
-    are_ready (capture_of c.args.setup.now c.args.items.now c.args.ticks)
-    c.in_ok-parts.field-0.parts _ c.requires.capture
-    c.in_ok-parts.ensures.parts_are refl c.as_slice.ensures c.as_slice-2.ensures
-
-pub put_result-requires-clause-between : goal.put_result-requires-clause-between
-put_result-requires-clause-between g c =
     let made = c.in_ok-parts.ensures in
     let parts = c.in_ok-parts.field-0.parts in
     let whole = capture_of c.args.setup.now c.args.items.now c.args.ticks in
@@ -24,7 +18,13 @@ put_result-requires-clause-between g c =
     let long : length c.as_slice-3.result.now ≡ packets_in whole + 1 =
     ap length (c.as_slice-3.ensures ∙ made.between)
     ∙ length-map-range_with_len of 0 (packets_in whole + 1) in
-    omega (arith, rows, long)
+    record {
+      ready = are_ready whole parts _ c.requires.capture made.parts_are refl c.as_slice.ensures
+          c.as_slice-2.ensures;
+      between_all = omega (arith, rows, long);
+      flags = ap length c.deref_mut.ensures.value ∙ made.found;
+      size = made.size;
+    }
 
 pub returns-in-Ok-clause-done : goal.returns-in-Ok-clause-done
 returns-in-Ok-clause-done g c =

@@ -9,8 +9,8 @@ use Rattle.serial_player.specs.Table.{place_of_claim, placed}
 use Rattle.serial_player.proofs.TableClaims.{flag_is, flags_closed, when_none}
 use Rattle.serial_player.proofs.claims.OneClaim.set_found.Goals as goal
 
-pub returns-clause-closed : goal.returns-clause-closed
-returns-clause-closed c = λ entries blocks by.
+pub returns-clause-flags : goal.returns-clause-flags
+returns-clause-flags c = λ entries blocks by.
     let of = c.args.self.now in
     let s = of.setup.now in
     let k = of.k in
