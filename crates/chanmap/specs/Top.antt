@@ -6,15 +6,11 @@ use Rattle.std.specs.Io.KnownBytes.{Appends}
 use Rattle.chan_io.specs.Streams.{WholeRead, TakesPrefix, TellsAlike}
 use Rattle.capture_file.specs.Capture.{CaptureParts, IsCaptureAt, IsCaptureText}
 use Rattle.capture_file.specs.Fault.{FaultIs}
-use Rattle.capture_file.specs.Records.{ShowsAll}
-use Rattle.capture_file.specs.Result.{FitsHistory, result_text}
 use Rattle.capture_file.specs.declared.fault.CaptureFault.{CaptureFault}
 use Rattle.capture_file.specs.declared.fault.CaptureKind.{CaptureKind}
 use Rattle.capture_file.specs.declared.fault.CaptureKind.TheVariants.{Magic, Cut, Tag, Order}
-use Rattle.capture_file.specs.declared.fault.CaptureKind.TheVariants.{Device, Body, Work}
-use Rattle.capture_file.specs.declared.fault.CaptureKind.TheVariants.{Trailing}
-use Rattle.plain_book.specs.declared.history.History.{History}
-use Rattle.serial_player.specs.Legal.{IsSerial, KeepsBegunTicks}
+use Rattle.capture_file.specs.declared.fault.CaptureKind.TheVariants.{Device, Body, Work, Trailing}
+use Rattle.serial_player.specs.Written.{IsResultOf}
 use Rattle.chanmap.specs.declared.top.TheConstants.{MOST_BYTES}
 use Rattle.chanmap.specs.declared.command.Command.{Command}
 use Rattle.chanmap.specs.declared.command.Command.TheVariants.{Serial}
@@ -53,18 +49,12 @@ pub record IsWholeInput (bytes : List ℕ) (capture : CaptureParts) : Type 0 whe
   pub only : (other : CaptureParts) → IsCaptureText other bytes → other ≡ capture
   pub sound : (at : ℕ) (kind : CaptureKind) → IsRefusedAt bytes at kind → ⊥
 
--- The bytes are the text of one capture and have no fault, and this text is the result of the
--- capture's serial history: nothing of it is left out, and each part of it is what some record of a
--- result is read as. The history is legal, and in it no activation changes a tick that has begun.
+-- The bytes are the text of one capture and have no fault, and this text is its result: that of the
+-- capture's serial history, which is legal.
 pub record IsSerialAnswer (bytes text : List ℕ) : Type 0 where
   pub capture : CaptureParts
-  pub history : History
   pub input : IsWholeInput bytes capture
-  pub serial : IsSerial capture history
-  pub begun : KeepsBegunTicks capture history
-  pub fits : FitsHistory capture.setup.device history
-  pub shows : ShowsAll history
-  pub written : text ≡ result_text capture.setup.device history
+  pub result : IsResultOf capture text
 
 -- what a command makes of its input
 abbrev pub IsAnswer : Command → List ℕ → List ℕ → Type 0

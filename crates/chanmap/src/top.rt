@@ -10,7 +10,6 @@ ghost use Rattle.chanmap.specs.Top.{HoldsCapture, HoldsFault, HoldsTooMuch, IsCu
 ghost use Rattle.chanmap.specs.Top.{IsFaulty, IsGiven, IsGivenInPart, IsNoCapture, IsTold};
 ghost use Rattle.chanmap.specs.Top.{IsToldEnd, IsToldFault, IsWholeInput, command_of};
 ghost use Rattle.chanmap.specs.declared.command.Command.{Command};
-ghost use Rattle.chanmap.specs.declared.command.Command.TheVariants.{Serial};
 ghost use Rattle.chanmap.specs.declared.top.Unanswered.TheVariants.{Refused, Unwritten};
 ghost use Rattle.chanmap.specs.declared.end.End.TheVariants.{NoMemory};
 
@@ -53,29 +52,6 @@ enum Unanswered {
     NoMemory,
 }
 
-/// Gives the sink the result of the capture that these bytes are, piece by piece, or tells their
-/// first fault.
-fn answer_serial<K: Sink>(alloc: Global, bytes: &[u8], out: &mut K) -> Result<(), Unanswered>
-    ensures done { OnOk result (IsGiven Serial bytes.now (K.taken out.old) (K.taken out.new)) }
-    ensures write_fault { IsErrOf result Unwritten → Rose (K.faults out.old) (K.faults out.new) }
-    ensures cut_short { IsErrOf result Unwritten
-        → IsGivenInPart Serial bytes.now (K.taken out.old) (K.taken out.new) }
-    ensures refused { (fault : CaptureFault) → IsErrOf result (Refused fault)
-        → IsNoCapture bytes.now fault }
-    ensures nothing { OnErr result ((IsErrOf result Unwritten → ⊥) → out.new ≡ out.old) }
-{
-    let capture = match read_all(alloc, bytes) {
-        Ok(capture) => capture,
-        Err(Or::Fault(fault)) => return Err(Unanswered::Refused(fault)),
-        Err(Or::NoMemory) => return Err(Unanswered::NoMemory),
-    };
-    match write_serial(alloc, &capture, out) {
-        Ok(()) => Ok(()),
-        Err(Or::Fault(_)) => Err(Unanswered::Unwritten),
-        Err(Or::NoMemory) => Err(Unanswered::NoMemory),
-    }
-}
-
 /// Gives the sink what a command makes of its input, or tells the input's first fault.
 fn answer<K: Sink>(
     alloc: Global,
@@ -92,7 +68,18 @@ fn answer<K: Sink>(
     ensures nothing { OnErr result ((IsErrOf result Unwritten → ⊥) → out.new ≡ out.old) }
 {
     match command {
-        Command::Serial => answer_serial(alloc, bytes, out),
+        Command::Serial => {
+            let capture = match read_all(alloc, bytes) {
+                Ok(capture) => capture,
+                Err(Or::Fault(fault)) => return Err(Unanswered::Refused(fault)),
+                Err(Or::NoMemory) => return Err(Unanswered::NoMemory),
+            };
+            match write_serial(alloc, &capture, out) {
+                Ok(()) => Ok(()),
+                Err(Or::Fault(_)) => Err(Unanswered::Unwritten),
+                Err(Or::NoMemory) => Err(Unanswered::NoMemory),
+            }
+        }
     }
 }
 
@@ -109,7 +96,8 @@ fn run<S: Source, K: Sink>(
     ensures usage { IsErrOf result End.Usage ↔ (command_of words.now ≡ None) }
     ensures known { OnOk result (command_of words.now ≡ None → ⊥) }
     ensures untouched { IsErrOf result End.Usage → S.left src.new ≡ S.left src.old }
-    ensures read_fault { IsErrOf result End.ReadFault → Rose (S.faults src.old) (S.faults src.new) }
+    ensures read_fault { IsErrOf result End.ReadFault
+        → Rose (S.faults src.old) (S.faults src.new) }
     ensures short { IsErrOf result End.ReadFault
         → BoundedRead (S.left src.old) (S.left src.new) MOST_BYTES }
     ensures write_fault { IsErrOf result End.WriteFault
@@ -122,7 +110,8 @@ fn run<S: Source, K: Sink>(
     ensures too_long { IsErrOf result End.TooLong
         → LongRead (S.left src.old) (S.left src.new) MOST_BYTES }
     ensures bounded { BoundedRead (S.left src.old) (S.left src.new) (MOST_BYTES + 1) }
-    ensures nothing { OnErr result ((IsErrOf result End.WriteFault → ⊥) → out.new ≡ out.old) }
+    ensures nothing { OnErr result ((IsErrOf result End.WriteFault → ⊥)
+        → out.new ≡ out.old) }
 {
     let Some(command) = command_of(words) else {
         return Err(End::Usage);
@@ -185,12 +174,13 @@ pub fn chanmap<S: Source, K: Sink, X: Sink>(
     ensures short { result ≡ 3 → BoundedRead (S.left src.old) (S.left src.new) MOST_BYTES }
     // Only where the count of `out` rose, which took a front of what the command makes.
     ensures write_fault { result ≡ 4 → Rose (K.faults out.old) (K.faults out.new) }
-    ensures cut_short { result ≡ 4 → (command : Command) → command_of words.now ≡ Some command
+    ensures cut_short { result ≡ 4 → (command : Command)
+        → command_of words.now ≡ Some command
         → IsCutShort command (S.left src.old) (S.left src.new) (K.taken out.old) (K.taken out.new) }
     // All was read, and the bytes have a fault; the line tells where the first one is, and its
     // kind.
-    ensures refused { result ≡ 5 → IsToldFault (S.left src.old) (S.left src.new) (X.taken err.old)
-        (X.taken err.new) (Rose (X.faults err.old) (X.faults err.new)) }
+    ensures refused { result ≡ 5 → IsToldFault (S.left src.old) (S.left src.new)
+        (X.taken err.old) (X.taken err.new) (Rose (X.faults err.old) (X.faults err.new)) }
     // One byte more than the most was read.
     ensures too_long { result ≡ 7 → LongRead (S.left src.old) (S.left src.new) MOST_BYTES }
     // Never is more read.
