@@ -37,27 +37,28 @@ made_by c entries blocks = claim_by c.setup.now entries blocks c.k
 abbrev pub packet_length_of : OneClaim → ℕ
 packet_length_of c = packet_length c.setup.now.device (output_of_claim c.setup.now c.k)
 
--- What is said of a claim holds whatever list of entries and blocks it is by: these are the flags
--- of the blocks that its packet finds,
+-- These are a claim's flags, whatever list of entries and blocks it is by: those of the blocks that
+-- its packet finds.
 abbrev pub AreFlagsOf : OneClaim → List Bool → Type 0
 AreFlagsOf c found =
     (entries : List Entry) (blocks : Blocks) → IsBy c entries blocks
     → AreClosed c.setup.now entries blocks c.k found
 
--- these bytes are its packet,
+-- These bytes are a claim's packet, whatever list of entries and blocks it is by.
 abbrev pub IsPacketOf : OneClaim → List ℕ → Type 0
 IsPacketOf c packet =
     (entries : List Entry) (blocks : Blocks) (found : List Bool) → IsBy c entries blocks
     → AreClosed c.setup.now entries blocks c.k found
     → packet ≡ packet_by c.setup.now entries blocks found c.k
 
--- this is the claim,
+-- This item is the claim, whatever list of entries and blocks it is by.
 abbrev pub IsClaimOf : OneClaim → ClaimItem → Type 0
 IsClaimOf c made =
     (entries : List Entry) (blocks : Blocks) → IsBy c entries blocks
     → made ≡ made_by c entries blocks
 
--- and this is its record, where these are its flags.
+-- These bytes are a claim's record, where these are its flags, whatever list of entries and blocks
+-- it is by.
 abbrev pub IsRecordOf : OneClaim → List Bool → List ℕ → Type 0
 IsRecordOf c found bytes =
     (entries : List Entry) (blocks : Blocks) → IsBy c entries blocks
@@ -90,7 +91,8 @@ AreClaimsOf c made =
     (entries : List Entry) (blocks : Blocks) → AreBy c entries blocks
     → made ≡ map (all_made_by c entries blocks) (range_with_len 0 (length c.rows.now))
 
--- one of the first claims is by what they all are by, and is the one of its number
+-- This is claim k of the first claims: it can be made, it is by what they all are by, and it is the
+-- one of its number.
 pub record IsOneOf (all : AllClaims) (k : ℕ) (c : OneClaim) : Type 0 where
   pub ready : IsReady c
   pub setup : c.setup.now ≡ all.setup.now

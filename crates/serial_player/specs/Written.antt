@@ -39,7 +39,7 @@ text_by between claim_of claims =
 
 -- ---- on its way to a sink, whatever list of entries and blocks the claims are by
 
--- a claim's record goes on to a sink
+-- a claim's record goes on to a sink, whatever list of entries and blocks the claim is by
 abbrev pub SendsClaim : OneClaim → Option (List ℕ) → List ℕ → Option (List ℕ) → List ℕ → Type 0
 SendsClaim c old old_waiting new new_waiting =
     (entries : List Entry) (blocks : Blocks) → IsBy c entries blocks
@@ -51,28 +51,28 @@ records_of_all c between entries blocks =
     flat_map (record_behind between (all_made_by c entries blocks))
     (range_with_len 0 (length c.rows.now))
 
--- they go on to a sink
+-- the records of the first claims go on to a sink, with what stands between them
 abbrev pub SendsClaims : AllClaims → List (List ℕ) → Option (List ℕ) → List ℕ → Option (List ℕ)
     → List ℕ → Type 0
 SendsClaims c between old old_waiting new new_waiting =
     (entries : List Entry) (blocks : Blocks) → AreBy c entries blocks
     → SendsOn old old_waiting new new_waiting (records_of_all c between entries blocks)
 
--- a sink took a front of what went on before and of them
+-- a sink took a front of what was given out before and of the records of the first claims
 abbrev pub TakesClaims : AllClaims → List (List ℕ) → Option (List ℕ) → List ℕ → Option (List ℕ)
     → Type 0
 TakesClaims c between old old_waiting new =
     (entries : List Entry) (blocks : Blocks) → AreBy c entries blocks
     → TakesOn old old_waiting new (records_of_all c between entries blocks)
 
--- a sink took the whole text
+-- a sink took the whole text of a result, whatever list of entries and blocks its claims are by
 abbrev pub TakesText : AllClaims → List (List ℕ) → Option (List ℕ) → Option (List ℕ) → Type 0
 TakesText c between old new =
     (entries : List Entry) (blocks : Blocks) → AreBy c entries blocks
     → TellsAlike old new
     × Appends old new (text_by between (all_made_by c entries blocks) (length c.rows.now))
 
--- or a front of it
+-- a sink took a front of the text of a result
 abbrev pub TakesTextInPart : AllClaims → List (List ℕ) → Option (List ℕ) → Option (List ℕ)
     → Type 0
 TakesTextInPart c between old new =
