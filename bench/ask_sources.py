@@ -60,8 +60,14 @@ fn ask_all(desk: &mut PlainDesk, request: &Request, asks: u64) -> Result<(), NoM
     Ok(())
 }
 
-/// Asks a new book so often, and another one for each turn.
-pub fn measure(clock: &impl Clock, alloc: Global, request: Request, asks: u64, turns: u64) -> Result<Spent> {
+/// Asks a new book `asks` times, and another one for each turn.
+pub fn measure(
+    clock: &impl Clock,
+    alloc: Global,
+    request: Request,
+    asks: u64,
+    turns: u64,
+) -> Result<Spent> {
     let setup = setup(alloc)?;
     let mut nanos = 0u128;
     for _ in 0..turns {
@@ -85,9 +91,15 @@ KINDS = (("activations", "requests::activation(alloc)?"), ("readings", "requests
 
 
 def asks() -> Measurement:
-    """Asks of the one-thread book. Its table has 510 places for activations; those behind them are refused."""
+    """Asks of the one-thread book. Its table has 510 places for activations; those after them are
+    refused.
+    """
     return Measurement(
         crates="io_caps map_entry plain_book",
         modules=[DEVICE, SETUPS, REQUESTS, ASKS],
-        cases=[(f"{count} {kind}", f"asks::measure(&rt, alloc, {request}, {count}, {turns})") for kind, request in KINDS for count, turns in RUNS],
+        cases=[
+            (f"{count} {kind}", f"asks::measure(&rt, alloc, {request}, {count}, {turns})")
+            for kind, request in KINDS
+            for count, turns in RUNS
+        ],
     )

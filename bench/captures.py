@@ -3,8 +3,8 @@
 from __future__ import annotations
 
 import random
+from collections.abc import Callable
 from dataclasses import dataclass, field
-from typing import Callable, Dict, List, Tuple
 
 WIDTHS = {16: 2, 24: 3}  # the bytes of a sample, by its bits
 HZ = 48000
@@ -13,14 +13,16 @@ BILLION = 1_000_000_000  # nanoseconds of a second
 
 @dataclass
 class Port:
-    """An input, or an output with its base row: for each channel an input and its channel, or (255, 0)."""
+    """An input, or an output with its base row: for each channel an input and its channel, or (255,
+    0).
+    """
 
     name: bytes
     channels: int
     bits: int
     payload_type: int
     ssrc: int
-    row: List[Tuple[int, int]] = field(default_factory=list)
+    row: list[tuple[int, int]] = field(default_factory=list)
 
     def frame_bytes(self) -> int:
         return self.channels * WIDTHS[self.bits]
@@ -30,15 +32,15 @@ class Port:
 class Device:
     frames: int
     hold: int
-    inputs: List[Port]
-    outputs: List[Port]
+    inputs: list[Port]
+    outputs: list[Port]
 
     def samples(self, ticks: int) -> int:
-        """How many samples so many ticks of claims put out."""
+        """How many samples the claims of these ticks put out."""
         return ticks * self.frames * sum(port.channels for port in self.outputs)
 
     def block_bytes(self, ticks: int) -> int:
-        """How many bytes the blocks of all inputs and so many ticks take, at 4 bytes a sample."""
+        """How many bytes the blocks of all inputs take over these ticks, at 4 bytes a sample."""
         return 4 * ticks * self.frames * sum(port.channels for port in self.inputs)
 
 
@@ -78,12 +80,12 @@ def work(claims: int) -> bytes:
     return record(b"T", claims.to_bytes(4, "big"))
 
 
-def whole(device: Device, ticks: int, records: List[bytes]) -> Measured:
+def whole(device: Device, ticks: int, records: list[bytes]) -> Measured:
     data = b"CHMCAP1\n" + device_record(device) + b"".join(records) + record(b"E", b"")
     return Measured(data, device.samples(ticks), device.block_bytes(ticks))
 
 
-def routed(draw: random.Random, inputs: List[Port], channels: int) -> List[Tuple[int, int]]:
+def routed(draw: random.Random, inputs: list[Port], channels: int) -> list[tuple[int, int]]:
     row = []
     for _ in range(channels):
         source = draw.randrange(len(inputs))
@@ -91,8 +93,10 @@ def routed(draw: random.Random, inputs: List[Port], channels: int) -> List[Tuple
     return row
 
 
-def plain_device(draw: random.Random, frames: int, sizes: Tuple[int, int, int, int], bits: int) -> Device:
-    """So many inputs of so many channels, and so many outputs; each channel of an output is routed."""
+def plain_device(
+    draw: random.Random, frames: int, sizes: tuple[int, int, int, int], bits: int
+) -> Device:
+    """A device of these numbers of inputs and outputs, with their channels, each routed."""
     inputs, of_input, outputs, of_output = sizes
     ports = [Port(b"in%d" % n, of_input, 16, 96, 100 + n) for n in range(inputs)]
     outs = [Port(b"out%d" % n, of_output, bits, 97, n + 1) for n in range(outputs)]
@@ -101,14 +105,16 @@ def plain_device(draw: random.Random, frames: int, sizes: Tuple[int, int, int, i
     return Device(frames, 2, ports, outs)
 
 
-def in_order(draw: random.Random, device: Device, ticks: int) -> List[bytes]:
+def in_order(draw: random.Random, device: Device, ticks: int) -> list[bytes]:
     """For each tick a packet of each input that fills it, and its claims."""
     records = []
     for tick in range(ticks):
         for source, port in enumerate(device.inputs):
             payload = draw.getrandbits(8 * device.frames * port.frame_bytes())
             size = device.frames * port.frame_bytes()
-            records.append(packet(source, port, tick * device.frames, payload.to_bytes(size, "big")))
+            records.append(
+                packet(source, port, tick * device.frames, payload.to_bytes(size, "big"))
+            )
         records.append(work(len(device.outputs)))
     return records
 
@@ -128,7 +134,9 @@ def one_frame(ticks: int) -> Measured:
 
 
 def disturbed(ticks: int) -> Measured:
-    """The ports of `heavy` at 48 frames: packets of other lengths than a tick's, of which some are lost, late, doubled, or overlap."""
+    """The ports of `heavy` at 48 frames: packets of other lengths than a tick's, of which some are
+    lost, late, doubled, or overlap.
+    """
     draw = random.Random(3)
     device = plain_device(draw, 48, (16, 8, 32, 4), 24)
     arrivals = []  # the frame before which a packet comes, and the packet
@@ -136,7 +144,9 @@ def disturbed(ticks: int) -> Measured:
         at = draw.randrange(48) - 48
         while at < ticks * device.frames:
             frames = draw.randrange(1, 120)
-            payload = draw.getrandbits(8 * frames * port.frame_bytes()).to_bytes(frames * port.frame_bytes(), "big")
+            payload = draw.getrandbits(8 * frames * port.frame_bytes()).to_bytes(
+                frames * port.frame_bytes(), "big"
+            )
             made = packet(source, port, at, payload)
             chance = draw.random()
             if chance >= 0.05:  # else it is lost
@@ -166,7 +176,7 @@ def action(draw: random.Random, device: Device, output: int) -> bytes:
 
 
 def requests(ticks: int) -> Measured:
-    """The ports of `heavy` at 6 frames a tick, with 480 activations, as many as a capture may have."""
+    """The ports of `heavy` at 6 frames a tick, with 480 activations."""
     draw = random.Random(4)
     device = plain_device(draw, 6, (16, 8, 32, 4), 24)
     records = in_order(draw, device, ticks)
@@ -177,12 +187,14 @@ def requests(ticks: int) -> Measured:
 
 
 class RequestMix:
-    """Requests of all kinds. Activations of locked outputs are refused, and deletions of what isn't pending."""
+    """Requests of all kinds. Activations of locked outputs are refused, and deletions of what
+    is not pending.
+    """
 
     def __init__(self, draw: random.Random, device: Device) -> None:
         self.draw, self.device = draw, device
         self.accepted = 0
-        self.scheduled: Dict[int, Tuple[int, int]] = {}  # by output the last one's id and tick
+        self.scheduled: dict[int, tuple[int, int]] = {}  # by output the last one's id and tick
 
     def request(self, op: int, tick: int) -> bytes:
         """A request at the first tick not begun."""
@@ -201,7 +213,7 @@ class RequestMix:
         return bytes([op]) + times[op] + action(self.draw, self.device, output)
 
     def time(self, ticks: int) -> bytes:
-        """The time of so many ticks, in seconds and nanoseconds."""
+        """The time that these ticks take, in seconds and nanoseconds."""
         seconds, nanos = divmod(ticks * self.device.frames * BILLION // HZ, BILLION)
         return seconds.to_bytes(8, "big") + nanos.to_bytes(4, "big")
 
@@ -214,14 +226,14 @@ class RequestMix:
 
 
 def requests500(ticks: int) -> Measured:
-    """The ports of `requests`; 320 activations, 120 of them scheduled, 60 deletions, 120 readings."""
+    """The ports of `requests`: 320 activations, 120 scheduled, 60 deletions, 120 readings."""
     draw = random.Random(5)
     device = plain_device(draw, 6, (16, 8, 32, 4), 24)
     records, made = in_order(draw, device, ticks), RequestMix(draw, device)
     ops = [0] * 200 + [1, 2, 3, 4, 5] * 60
     draw.shuffle(ops)
     places = sorted(draw.randrange(len(records) + 1) for _ in ops)
-    a_tick = len(device.inputs) + 1  # so many records
+    a_tick = len(device.inputs) + 1  # records of a tick
     asks = [ask(draw, made.request(op, place // a_tick)) for op, place in zip(ops, places)]
     for one, place in zip(reversed(asks), reversed(places)):
         records.insert(place, one)
@@ -229,7 +241,9 @@ def requests500(ticks: int) -> Measured:
 
 
 class Draws:
-    """The draws of the generator: a number that is multiplied and added to, and of which the upper half counts."""
+    """The draws of the generator: a number that is multiplied and added to, and of which the upper
+    half counts.
+    """
 
     def __init__(self, seed: int) -> None:
         self.state = seed
@@ -239,11 +253,15 @@ class Draws:
         return self.state >> 32
 
     def samples(self, count: int, size: int) -> bytes:
-        return b"".join((self.next() % (1 << (8 * size))).to_bytes(size, "big") for _ in range(count))
+        return b"".join(
+            (self.next() % (1 << (8 * size))).to_bytes(size, "big") for _ in range(count)
+        )
 
 
 def generated(ticks: int) -> Measured:
-    """Two inputs of 2 and 4 channels, four outputs of 2 in L24, 48 frames a tick, and an activation every fourth tick."""
+    """Two inputs of 2 and 4 channels, four outputs of 2 in L24, 48 frames a tick, and an activation
+    every fourth tick.
+    """
     draws = Draws(7)
     inputs = [Port(b"in1", 2, 24, 96, 101), Port(b"in2", 4, 16, 97, 102)]
     outputs = [Port(b"out%d" % n, 2, 24, 98, n, [(255, 0)] * 2) for n in range(1, 5)]
@@ -263,7 +281,7 @@ def generated(ticks: int) -> Measured:
     return whole(device, ticks, records)
 
 
-CAPTURES: Dict[str, Callable[[int], Measured]] = {
+CAPTURES: dict[str, Callable[[int], Measured]] = {
     "heavy": heavy,
     "one_frame": one_frame,
     "disturbed": disturbed,

@@ -6,7 +6,7 @@ from measurement import DEVICE, SETUPS, Measurement, Module
 
 TABLES = Module(
     "tables",
-    """//! Claim tables with so many entries.
+    """//! Claim tables with a given number of entries.
 
 ghost use Rattle.std.specs.Prelude.{◌≡◌, ◌<◌, ◌≤◌, ◌∷◌, [], IfOk, IsTrue, OnOk, length};
 ghost use Rattle.io_caps.specs.declared.limits.TheConstants.{MOST_OUTPUTS};
@@ -73,7 +73,9 @@ fn is_row(device: &Device, output: u8, row: &Row) -> bool
 }
 
 fn is_timely(device: &Device, claims: u64, tick: u64) -> bool
-    ensures timely { IsTrue result → first_tick device.now.base (length device.now.outputs) claims ≤ tick }
+    ensures timely {
+        IsTrue result → first_tick device.now.base (length device.now.outputs) claims ≤ tick
+    }
     ensures few { IsTrue result → tick < TICKS_LIMIT }
 {
     if claims >= CLAIMS_LIMIT || tick >= TICKS_LIMIT {
@@ -122,8 +124,14 @@ fn publish(
     }
 }
 
-/// Publishes entries until there are so many: an output's count from one tick after the other.
-pub fn fill(alloc: Global, setup: &Setup, table: &ClaimTable, publisher: &mut Publisher, entries: u64) -> Result<()>
+/// Publishes entries until there are `entries`: an output's count from one tick after the other.
+pub fn fill(
+    alloc: Global,
+    setup: &Setup,
+    table: &ClaimTable,
+    publisher: &mut Publisher,
+    entries: u64,
+) -> Result<()>
     requires setup { table.now.plan.setup ≡ setup.now }
     requires of { IsPublisherOf table.now publisher.old }
     ensures { IsPublisherOf table.now publisher.new }
@@ -325,11 +333,17 @@ invariant-loop l = IsPassOf l.fn.table l.pass
 
 
 def claims() -> Measurement:
-    """A claim alone, and a claim with its row, where tables have so many entries, on one thread."""
+    """A claim alone, and a claim with its row, on tables of several sizes, on one thread."""
     sizes = (2, 100, 500)
     return Measurement(
         crates="io_caps map_entry claim_rule claim_word",
         modules=[DEVICE, SETUPS, TABLES, CLAIMS],
-        cases=[(f"claim, {size} entries", f"claims::measure(&rt, alloc, {size}, false)") for size in sizes]
-        + [(f"claim and row, {size} entries", f"claims::measure(&rt, alloc, {size}, true)") for size in sizes],
+        cases=[
+            (f"claim, {size} entries", f"claims::measure(&rt, alloc, {size}, false)")
+            for size in sizes
+        ]
+        + [
+            (f"claim and row, {size} entries", f"claims::measure(&rt, alloc, {size}, true)")
+            for size in sizes
+        ],
     )

@@ -234,7 +234,7 @@ invariant-loop-frame l = record {
 
 
 def inputs() -> Measurement:
-    """A start of the largest table, and what a sample takes to be set and to be read, on one thread."""
+    """A start of the largest table; a sample set, a sample read, on one thread."""
     return Measurement(
         crates="io_caps input_rule input_cells",
         modules=[DEVICE, TABLES],

@@ -1,29 +1,32 @@
-"""What a measurement of bench/calls is, and the device that the measurements share, in Rattle with its proofs."""
+"""What a measurement of bench/calls is, and the device that the measurements share, in Rattle with
+its proofs.
+"""
 
 from __future__ import annotations
 
 from dataclasses import dataclass, field
-from typing import Dict, List, Tuple
 
 
 @dataclass
 class Module:
-    """A file of the program's src/, and files of its proofs/ by their paths below the module's folder."""
+    """A file of the program's src/, and files of its proofs/ by their paths below the module's
+    folder.
+    """
 
     name: str
     source: str
-    proofs: Dict[str, str] = field(default_factory=dict)
+    proofs: dict[str, str] = field(default_factory=dict)
 
 
 @dataclass
 class Measurement:
-    """The crates that the modules name, the modules, and the cases: a label, and a call that answers a `Result<Spent>` where `rt` is
-    the runtime and `alloc` the allocator.
+    """The crates that the modules name, the modules, and the cases: a label, and a call that
+    answers a `Result<Spent>` where `rt` is the runtime and `alloc` the allocator.
     """
 
     crates: str
-    modules: List[Module]
-    cases: List[Tuple[str, str]]
+    modules: list[Module]
+    cases: list[tuple[str, str]]
 
 
 DEVICE = Module(
@@ -32,7 +35,8 @@ DEVICE = Module(
 
 use anyhow::{Result, anyhow};
 use io_caps::{
-    Device, DeviceParts, Input, Inputs, Labels, NoMemory, Output, Outputs, Parent, Rate, Routable, Text, Width,
+    Device, DeviceParts, Input, Inputs, Labels, NoMemory, Output, Outputs, Parent, Rate, Routable,
+    Text, Width,
 };
 use std::alloc::Global;
 
@@ -88,7 +92,7 @@ fn outputs(alloc: Global, channels: u8) -> Result<Outputs, NoMemory> {
     Ok(made)
 }
 
-/// The device with so many frames a tick, and so many channels of each output.
+/// The device with this number of frames a tick, and of channels of each output.
 pub fn device(alloc: Global, frames: u16, channels: u8) -> Result<Device> {
     let parts = DeviceParts {
         rate: Rate { hz: 48000, frames },

@@ -7,7 +7,6 @@ import os
 import pathlib
 import subprocess
 import time
-from typing import List
 
 KILOBYTE = 1024
 PR_SET_CHILD_SUBREAPER = 36  # of prctl
@@ -21,12 +20,12 @@ def build_yardstick(folder: pathlib.Path) -> pathlib.Path:
     return built
 
 
-def output(words: List[str], source: pathlib.Path) -> bytes:
+def output(words: list[str], source: pathlib.Path) -> bytes:
     with open(source, "rb") as data:
         return subprocess.run(words, stdin=data, stdout=subprocess.PIPE, check=True).stdout
 
 
-def seconds(words: List[str], source: pathlib.Path) -> float:
+def seconds(words: list[str], source: pathlib.Path) -> float:
     """How long a run takes whose output nobody keeps."""
     with open(source, "rb") as data, open(os.devnull, "wb") as out:
         start = time.perf_counter()
@@ -34,7 +33,7 @@ def seconds(words: List[str], source: pathlib.Path) -> float:
         return time.perf_counter() - start
 
 
-def peak_memory(words: List[str], data: bytes) -> int:
+def peak_memory(words: list[str], data: bytes) -> int:
     """The most bytes that a run holds: its maximum resident set, on Linux.
 
     What a process held before it became the program counts too, and here that would be what this
@@ -53,7 +52,7 @@ def peak_memory(words: List[str], data: bytes) -> int:
     return usage.ru_maxrss * KILOBYTE
 
 
-def instructions(words: List[str], source: pathlib.Path, folder: pathlib.Path) -> int:
+def instructions(words: list[str], source: pathlib.Path, folder: pathlib.Path) -> int:
     """How many instructions a run takes, by callgrind."""
     counts = folder / "callgrind"
     tool = ["valgrind", "--tool=callgrind", f"--callgrind-out-file={counts}"]

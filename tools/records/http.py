@@ -8,14 +8,15 @@ from __future__ import annotations
 
 import json
 import re
-from typing import Any, Callable, Dict, List, Optional
+from collections.abc import Callable
+from typing import Any, Optional
 
 REQUEST_LINE = re.compile(rb"([A-Z]+) (\S+) HTTP/1\.[01]\r?\n")
 STATUS_LINE = re.compile(rb"HTTP/1\.1 (\d{3}) ([^\r\n]*)\r\n")
 HEAD_END = re.compile(rb"\r?\n\r?\n")
 LENGTH = re.compile(rb"^content-length:[ \t]*(\d{1,6})[ \t]*\r?$", re.I | re.M)
 
-Values = Dict[str, Any]
+Values = dict[str, Any]
 
 
 def text(data: bytes) -> Optional[str]:
@@ -28,9 +29,9 @@ def text(data: bytes) -> Optional[str]:
 # ---- streams
 
 
-def requests(data: bytes) -> Optional[List[Values]]:
+def requests(data: bytes) -> Optional[list[Values]]:
     """The whole requests of which a piece consists; None where it is no such row of requests."""
-    found: List[Values] = []
+    found: list[Values] = []
     while data:
         line, end = REQUEST_LINE.match(data), HEAD_END.search(data)
         if not line or not end:
@@ -108,7 +109,7 @@ def output_port(value: Any) -> Values:
     return {**values, "routable": choices, "row": [cell(one) for one in row]}
 
 
-def each(value: Any, key: str, reading: Callable[[Any], Values]) -> List[Values]:
+def each(value: Any, key: str, reading: Callable[[Any], Values]) -> list[Values]:
     return [reading(one) for one in member(value, key, list)]
 
 

@@ -1,14 +1,14 @@
 """Reads captures and results into records, whose values are told by names.
 
 A record's values are plain: numbers, texts, lists, dictionaries. Inputs and outputs are told by
-their ids, or by their numbers behind a hash where no id is known.
+their ids, or by their numbers after a hash where no id is known.
 """
 
 from __future__ import annotations
 
 from collections.abc import Callable, Generator, Iterator
 from dataclasses import dataclass, field
-from typing import Any, Dict, List, Optional, Tuple
+from typing import Any, Optional
 
 from records import http
 
@@ -24,7 +24,7 @@ NO_INPUT = 0xFE
 RTP_VERSION = 2
 RTP_HEAD_LENGTH = 12
 
-Values = Dict[str, Any]
+Values = dict[str, Any]
 
 
 class Fault(Exception):
@@ -71,8 +71,8 @@ class Device:
 
     base: int = 0
     frames: int = 0
-    inputs: List[Port] = field(default_factory=list)
-    outputs: List[Port] = field(default_factory=list)
+    inputs: list[Port] = field(default_factory=list)
+    outputs: list[Port] = field(default_factory=list)
     rate: int = 0
 
     @property
@@ -97,7 +97,7 @@ class View:
     """The device told last, and the faults so far."""
 
     device: Device = field(default_factory=Device)
-    faults: List[Record] = field(default_factory=list)
+    faults: list[Record] = field(default_factory=list)
 
     def fault(self, at: int, kind: str, found: str) -> Record:
         self.faults.append(Record(at, "fault", {"fault": kind, "found": found}))
@@ -105,7 +105,7 @@ class View:
 
 
 def quoted(text: bytes) -> str:
-    """A text on one line: a backslash, and each byte of what can't be printed, is an escape."""
+    """A text on one line: a backslash, and each byte of what cannot be printed, is an escape."""
     decoded = text.replace(b"\\", b"\\\\").decode("utf-8", "backslashreplace")
     return "".join(char if char.isprintable() else escaped(char) for char in decoded)
 
@@ -119,21 +119,21 @@ def counted(count: int, one: str) -> str:
     return f"{count} {one}" if count == 1 else f"{count} {one}s"
 
 
-def chosen(choices: Dict[int, Any], number: int, what: str) -> Any:
+def chosen(choices: dict[int, Any], number: int, what: str) -> Any:
     if number not in choices:
         raise Fault("unknown", f"{what} {number:02x}")
     return choices[number]
 
 
-def name(ports: List[Port], number: int) -> str:
-    """The id, or the number behind a hash where no id is known."""
+def name(ports: list[Port], number: int) -> str:
+    """The id, or the number after a hash where no id is known."""
     return ports[number].name if number < len(ports) else f"#{number}"
 
 
 # ---- packets (RFC 3550, section 5.1)
 
 
-def rtp_packet(fields: Fields) -> Tuple[Values, bytes]:
+def rtp_packet(fields: Fields) -> tuple[Values, bytes]:
     """The head of the packet that is left, and its payload."""
     first, second = fields.number(), fields.number()
     if first >> 6 != RTP_VERSION:
@@ -180,12 +180,12 @@ def cell(fields: Fields, device: Device) -> Optional[Values]:
     return chosen({0: None}, channel, "cell ff")
 
 
-def row(fields: Fields, device: Device, channels: int) -> List[Optional[Values]]:
+def row(fields: Fields, device: Device, channels: int) -> list[Optional[Values]]:
     return [cell(fields, device) for _ in range(channels)]
 
 
-def port(fields: Fields, ports: List[Port]) -> Values:
-    """What inputs and outputs begin with alike; the port is put behind the others."""
+def port(fields: Fields, ports: list[Port]) -> Values:
+    """What inputs and outputs begin with alike; the port is put after the others."""
     at = fields.at
     one = Port(quoted(fields.take(fields.number())), fields.number(), fields.number())
     ports.append(one)
@@ -241,7 +241,7 @@ def json_device(fields: Fields, view: View) -> Values:
     return {**values, **said}
 
 
-def action(fields: Fields, device: Device) -> List[Values]:
+def action(fields: Fields, device: Device) -> list[Values]:
     """What is changed of each output: the channels with their cells."""
     changes = []
     for _ in range(fields.number()):
@@ -307,8 +307,8 @@ def row_fault(fields: Fields, device: Device) -> Values:
     return {**values, "channel": fields.number()}
 
 
-# Each code with the word of its reply and what stands behind it.
-REPLIES: Dict[int, Tuple[str, Callable[[Fields, Device], Values]]] = {
+# Each code with the word of its reply and what follows it.
+REPLIES: dict[int, tuple[str, Callable[[Fields, Device], Values]]] = {
     0x00: ("activated", lambda f, d: {"id": f.number(8), "tick": f.number(8)}),
     0x01: ("scheduled", lambda f, d: {"id": f.number(8), "tick": f.number(8)}),
     0x02: ("deleted", lambda f, d: {"id": f.number(8)}),
@@ -397,7 +397,7 @@ def end_record(fields: Fields, view: View) -> Values:
 
 
 Reader = Callable[[Fields, View], Values]
-RECORDS: Dict[str, Dict[int, Tuple[str, Reader]]] = {
+RECORDS: dict[str, dict[int, tuple[str, Reader]]] = {
     "capture": {
         ord("D"): ("device", device_record),
         ord("J"): ("device", json_device),
@@ -432,7 +432,7 @@ def read_record(text_kind: str, tag: int, body: bytes, at: int, view: View) -> R
 
 
 def read_records(data: bytes, at: int, text_kind: str, view: View) -> Generator[Record, None, int]:
-    """The records up to the end record; answers the place behind it."""
+    """The records up to the end record; answers the place after it."""
     tag = 0
     while tag != END_TAG:
         head = data[at : at + RECORD_HEAD_LENGTH]
@@ -450,7 +450,7 @@ def read_records(data: bytes, at: int, text_kind: str, view: View) -> Generator[
 
 
 def read(data: bytes, view: View) -> Iterator[Record]:
-    """The records of all texts that stand behind one another."""
+    """The records of all texts that follow one another."""
     at = 0
     while at == 0 or at < len(data):
         magic = data[at : at + MAGIC_LENGTH]
@@ -466,7 +466,7 @@ def read(data: bytes, view: View) -> Iterator[Record]:
         at = yield from read_records(data, at + MAGIC_LENGTH, MAGICS[magic], view)
 
 
-def samples(values: Values) -> Optional[List[List[int]]]:
+def samples(values: Values) -> Optional[list[list[int]]]:
     """A packet's samples, frame by frame, as signed numbers; None where no port tells the width."""
     size, channels = values.get("sample_bytes"), values.get("channels")
     if not size or not channels:

@@ -9,8 +9,9 @@ from __future__ import annotations
 
 import math
 import re
+from collections.abc import Callable
 from dataclasses import dataclass, field
-from typing import Callable, Dict, List, Match, Optional, Tuple
+from typing import Optional
 
 from records import http
 from records.reading import (
@@ -39,7 +40,7 @@ CELL = re.compile(r"(?:(\S+) )?(\d+) <- (?:(unrouted)|(\S+) (\d+))$")
 
 
 class NotTold(Exception):
-    """The capture can't be told as a text."""
+    """The capture cannot be told as a text."""
 
 
 class TextFault(Exception):
@@ -75,7 +76,7 @@ def unquoted(text: str) -> bytes:
 # ---- fields of a line
 
 
-def fields(text: str) -> List[str]:
+def fields(text: str) -> list[str]:
     return [one for one in re.split(r",\s*", text.strip()) if one]
 
 
@@ -85,7 +86,7 @@ def number(text: str, what: str) -> int:
     return int(text)
 
 
-def matched(pattern: str, text: str) -> Optional[Match[str]]:
+def matched(pattern: str, text: str) -> Optional[re.Match[str]]:
     return re.fullmatch(pattern, text)
 
 
@@ -100,8 +101,8 @@ class TextPort:
     block_size: int = 1
     reordering: bool = True
     ssrc: int = 1
-    routable: Optional[List[str]] = None
-    row: Dict[int, bytes] = field(default_factory=dict)
+    routable: Optional[list[str]] = None
+    row: dict[int, bytes] = field(default_factory=dict)
 
     def take(self, text: str) -> None:
         """One field of the line."""
@@ -135,8 +136,8 @@ class Writer:
     """A text that is turned into a capture, line by line."""
 
     device: Optional[Values] = None
-    inputs: List[TextPort] = field(default_factory=list)
-    outputs: List[TextPort] = field(default_factory=list)
+    inputs: list[TextPort] = field(default_factory=list)
+    outputs: list[TextPort] = field(default_factory=list)
     records: bytes = b""
     is_begun: bool = False
     is_ended: bool = False
@@ -151,7 +152,7 @@ class Writer:
     def output_number(self, name: str) -> int:
         return port_number(self.outputs, name, "output")
 
-    def cell(self, found: Match[str]) -> bytes:
+    def cell(self, found: re.Match[str]) -> bytes:
         if found.group(3):
             return bytes([UNROUTED, 0])
         source = self.input_number(found.group(4))
@@ -206,7 +207,7 @@ class Writer:
         return data + b"".join(port.row.get(c, bytes([UNROUTED, 0])) for c in range(port.channels))
 
     def write_device(self) -> None:
-        """The device's record, before the first record behind it."""
+        """The device's record, before the first record after it."""
         if self.is_device_written or self.device is None:
             return
         self.is_device_written = True
@@ -238,7 +239,7 @@ class Writer:
 
     def take_packet(self, text: str) -> None:
         front, colon, payload = text.partition(":")
-        values: Dict[str, int] = {}
+        values: dict[str, int] = {}
         source, ticks, is_raw, marker = None, None, False, False
         for one in fields(front):
             if found := matched(r"input (\S+)", one):
@@ -263,7 +264,7 @@ class Writer:
             self.write_packet(source, values, tick, marker, payload)
 
     def write_packet(
-        self, source: int, values: Dict[str, int], tick: Optional[int], marker: bool, payload: str
+        self, source: int, values: dict[str, int], tick: Optional[int], marker: bool, payload: str
     ) -> None:
         port = self.inputs[source] if source < len(self.inputs) else TextPort("")
         frames = (self.device or {}).get("frames", 0)
@@ -327,7 +328,7 @@ class Writer:
 
     def action(self, text: str) -> bytes:
         """Cells of one output that stand together are one change."""
-        changes: List[Tuple[int, List[bytes]]] = []
+        changes: list[tuple[int, list[bytes]]] = []
         for one in [] if text == "no output" else fields(text):
             if found := matched(r"(\S+) as it is", one):
                 changes.append((self.output_number(found.group(1)), []))
@@ -390,7 +391,7 @@ class Writer:
         if word == "device":
             self.take_device(text.strip())
             return
-        takers: Dict[str, Callable[[str], None]] = {
+        takers: dict[str, Callable[[str], None]] = {
             "packet": self.take_packet,
             "work": self.take_work,
             "request": self.take_request,
@@ -405,8 +406,8 @@ class Writer:
         self.is_ended = word == "end"
 
 
-def port_number(ports: List[TextPort], name: str, side: str) -> int:
-    """The number of an id, or the one behind a hash."""
+def port_number(ports: list[TextPort], name: str, side: str) -> int:
+    """The number of an id, or the one after a hash."""
     if found := matched(r"#(\d+)", name):
         return int(found.group(1))
     for place, port in enumerate(ports):
@@ -423,7 +424,7 @@ def hexadecimal(text: str) -> bytes:
 
 
 def uncommented(line: str) -> str:
-    """A line without what stands behind a hash and a space; a text in a record may have both."""
+    """A line without what follows a hash and a space; a text in a record may have both."""
     if re.match(r"[\d ]*(stream|http|device +JSON) ", line):
         return line
     return COMMENT.sub("", line).rstrip()
@@ -472,7 +473,7 @@ def all_whole(values: Values) -> bool:
     return len(values["payload"]) // 2 % values["sample_bytes"] == 0
 
 
-def record_lines(record: Record, data: bytes) -> List[str]:
+def record_lines(record: Record, data: bytes) -> list[str]:
     if record.kind == "capture":
         return ["capture"]
     if record.kind == "device" and "json" not in record.values:
@@ -495,7 +496,7 @@ def record_lines(record: Record, data: bytes) -> List[str]:
     return [f"{record.kind:<8} {words}" if words else record.kind]
 
 
-def text_of(data: bytes) -> List[str]:
+def text_of(data: bytes) -> list[str]:
     """The lines of a capture's text, from which its bytes are made again."""
     view = View()
     records = list(read(data, view))

@@ -2,7 +2,8 @@
 
 from __future__ import annotations
 
-from typing import Dict, Iterator, List, Optional, Set, Tuple
+from collections.abc import Iterator
+from typing import Optional
 
 from records.reading import Device, Record, samples
 from records.words import request_words
@@ -31,9 +32,9 @@ class Timeline:
 
     def __init__(self, device: Device) -> None:
         self.device = device
-        self.inputs: Dict[str, Dict[int, str]] = {one.name: {} for one in device.inputs}
-        self.outputs: Dict[str, Dict[int, str]] = {one.name: {} for one in device.outputs}
-        self.calls: Dict[int, List[Record]] = {}
+        self.inputs: dict[str, dict[int, str]] = {one.name: {} for one in device.inputs}
+        self.outputs: dict[str, dict[int, str]] = {one.name: {} for one in device.outputs}
+        self.calls: dict[int, list[Record]] = {}
 
     def add(self, record: Record) -> None:
         values = record.values
@@ -47,14 +48,14 @@ class Timeline:
 
     def ticks(self, chosen: Optional[range]) -> range:
         """From the first to the last tick that has a mark, within those chosen."""
-        there: Set[int] = set(self.calls)
+        there: set[int] = set(self.calls)
         for marks in [*self.inputs.values(), *self.outputs.values()]:
             there.update(marks)
         if chosen is not None:
             there = {tick for tick in there if tick in chosen}
         return range(min(there), max(there) + 1) if there else range(0)
 
-    def call_marks(self) -> Dict[int, str]:
+    def call_marks(self) -> dict[int, str]:
         marks = {}
         for tick, calls in self.calls.items():
             number = calls[0].values["id"]
@@ -62,7 +63,7 @@ class Timeline:
         return marks
 
     def lines(self, chosen: Optional[range] = None, output: Optional[str] = None) -> Iterator[str]:
-        rows: List[Tuple[str, Dict[int, str]]] = []
+        rows: list[tuple[str, dict[int, str]]] = []
         rows += [(f"input {name}", marks) for name, marks in self.inputs.items()]
         rows += [(f"output {n}", m) for n, m in self.outputs.items() if output in (None, n)]
         rows.append(("calls", self.call_marks()))
@@ -83,7 +84,7 @@ class Timeline:
         yield LEGEND
 
 
-def mark(marks: Dict[int, str], tick: int, sound: bool) -> None:
+def mark(marks: dict[int, str], tick: int, sound: bool) -> None:
     marks[tick] = SOUND if sound or marks.get(tick) == SOUND else SILENCE
 
 
@@ -97,7 +98,7 @@ def ruler(part: range) -> str:
     return text
 
 
-def timeline(records: List[Record], device: Device) -> Timeline:
+def timeline(records: list[Record], device: Device) -> Timeline:
     made = Timeline(device)
     for record in records:
         made.add(record)

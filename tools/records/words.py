@@ -2,7 +2,7 @@
 
 from __future__ import annotations
 
-from typing import Dict, List, Optional
+from typing import Optional
 
 from records.reading import Record, Values, counted, quoted
 
@@ -39,7 +39,7 @@ def cell_words(cell: Optional[Values]) -> str:
     return "unrouted" if cell is None else f"{cell['input']} {cell['channel']}"
 
 
-def row_words(row: List[Optional[Values]], before: str = "") -> List[str]:
+def row_words(row: list[Optional[Values]], before: str = "") -> list[str]:
     return [f"{before}{channel} <- {cell_words(cell)}" for channel, cell in enumerate(row)]
 
 
@@ -74,8 +74,8 @@ def device_words(values: Values) -> str:
     return text + "".join(f"\n{at:>{OFFSET_LENGTH}}    {words}" for at, words in ports)
 
 
-def action_words(action: List[Values]) -> str:
-    changes: List[str] = []
+def action_words(action: list[Values]) -> str:
+    changes: list[str] = []
     for change in action:
         cells = [f"{one['channel']} <- {cell_words(one['cell'])}" for one in change["cells"]]
         changes += [f"{change['output']} {cell}" for cell in cells or ["as it is"]]
@@ -110,7 +110,7 @@ def pending_words(values: Values) -> str:
 
 
 # The replies whose words are a pattern over their values.
-REPLY_PATTERNS: Dict[str, str] = {
+REPLY_PATTERNS: dict[str, str] = {
     "activated": "activated, id {id}, tick {tick}",
     "scheduled": "scheduled, id {id}, tick {tick}",
     "deleted": "deleted, id {id}",
@@ -180,7 +180,7 @@ def reply_record_words(values: Values) -> str:
 
 
 def words_of(record: Record, samples: int = DEFAULT_SAMPLES) -> str:
-    """What a record says, behind its kind."""
+    """What a record says, after its kind."""
     values = record.values
     if record.kind == "device":
         return device_words(values)
@@ -200,7 +200,7 @@ def words_of(record: Record, samples: int = DEFAULT_SAMPLES) -> str:
 
 
 def line_of(record: Record, samples: int = DEFAULT_SAMPLES) -> str:
-    """A record's line, with its offset; a fault's has its offset behind its kind."""
+    """A record's line, with its offset; a fault's has its offset after its kind."""
     if record.kind == "fault":
         return f"{record.values['fault']} at {record.at}: {record.values['found']}"
     words = words_of(record, samples)

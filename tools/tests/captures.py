@@ -4,7 +4,6 @@ from __future__ import annotations
 
 import json
 import random
-from typing import Dict, List
 
 import model
 
@@ -38,12 +37,14 @@ class Captures:
         self.base = self.random.choice([0, 0, 1, wrap - 2, wrap // 2, 3 * wrap - 1, 1 << 40])
         self.hold = self.random.choice([0, 0, 1, 2, 64])
         self.inputs = [self.random.randint(1, 4) for _ in range(self.random.randint(0, 3))]
-        self.blocks = [self.random.choice([1, channels, 2 - channels % 2]) for channels in self.inputs]
+        self.blocks = [
+            self.random.choice([1, channels, 2 - channels % 2]) for channels in self.inputs
+        ]
         self.bits = [self.random.choice([16, 24]) for _ in self.inputs]
         self.outputs = [self.random.randint(1, 4) for _ in range(self.random.randint(1, 3))]
 
     def cell(self) -> bytes:
-        """A cell, of which few name what isn't there."""
+        """A cell, of which few name what is not there."""
         if not self.inputs or self.random.random() < 0.3:
             return b"\xff\0"
         source = self.random.randrange(len(self.inputs) + (self.random.random() < 0.05))
@@ -68,11 +69,17 @@ class Captures:
         if self.random.random() < 0.6:
             return b"\xff"
         members = {254 if cell[0] == 255 else cell[0] for cell in row}
-        members |= {number for number in [254, *range(len(self.inputs))] if self.random.random() < 0.6}
+        members |= {
+            number for number in [254, *range(len(self.inputs))] if self.random.random() < 0.6
+        }
         return bytes([len(members), *sorted(members)])
 
     def device(self) -> bytes:
-        body = (48000).to_bytes(4, "big") + self.frames.to_bytes(2, "big") + self.base.to_bytes(8, "big")
+        body = (
+            (48000).to_bytes(4, "big")
+            + self.frames.to_bytes(2, "big")
+            + self.base.to_bytes(8, "big")
+        )
         body += bytes([self.hold, len(self.inputs), len(self.outputs)])
         for number, channels in enumerate(self.inputs):
             body += bytes([1, ord("a") + number, channels, self.bits[number], 96])
@@ -86,30 +93,56 @@ class Captures:
     def frame(self, ticks: int) -> int:
         """The first frame of a packet, from the session's first: near the session, or anywhere."""
         if self.random.random() < 0.05:
-            return self.random.choice([-(1 << 31), (1 << 31) - 1, ticks * self.frames, self.random.randrange(1 << 32)])
+            return self.random.choice(
+                [-(1 << 31), (1 << 31) - 1, ticks * self.frames, self.random.randrange(1 << 32)]
+            )
         if self.random.random() < 0.5:
             return self.frames * self.random.randrange(-2, ticks + 2)
         return self.random.randrange(-2 * self.frames - 1, (ticks + 1) * self.frames + 1)
 
     def head(self, frame: int) -> bytes:
-        """A head, of which some have CSRCs, an extension, padding or a marker; without what follows the fixed part."""
-        first = 0x80 if self.random.random() < 0.7 else 0x80 | self.random.choice([0x01, 0x02, 0x10, 0x20, 0x31, 0x0F])
+        """A head, of which some have CSRCs, an extension, padding or a marker; without what follows
+        the fixed part.
+        """
+        first = (
+            0x80
+            if self.random.random() < 0.7
+            else 0x80 | self.random.choice([0x01, 0x02, 0x10, 0x20, 0x31, 0x0F])
+        )
         second = 0x60 if self.random.random() < 0.9 else self.random.choice([0xE0, 0x61])
         timestamp = (self.base * self.frames + frame) % (1 << 32)
-        return bytes([first, second]) + self.random.randbytes(2) + timestamp.to_bytes(4, "big") + self.random.randbytes(4)
+        return (
+            bytes([first, second])
+            + self.random.randbytes(2)
+            + timestamp.to_bytes(4, "big")
+            + self.random.randbytes(4)
+        )
 
     def around(self, head: bytes, payload: bytes) -> bytes:
         """The packet of a head: what its first byte says stands around the payload."""
         packet = head + self.random.randbytes(4 * (head[0] & 15))
         if head[0] & 0x10:
             words = self.random.randrange(3)
-            packet += self.random.randbytes(2) + words.to_bytes(2, "big") + self.random.randbytes(4 * words)
+            packet += (
+                self.random.randbytes(2)
+                + words.to_bytes(2, "big")
+                + self.random.randbytes(4 * words)
+            )
         padding = self.random.randint(1, 5) if head[0] & 0x20 else 0
-        return packet + payload + self.random.randbytes(max(0, padding - 1)) + bytes([padding])[: min(padding, 1)]
+        return (
+            packet
+            + payload
+            + self.random.randbytes(max(0, padding - 1))
+            + bytes([padding])[: min(padding, 1)]
+        )
 
     def packet(self, source: int, ticks: int) -> bytes:
         """A packet's record: most are of RTP and of whole frames, some cut, and some any bytes."""
-        count = self.frames if self.random.random() < 0.5 else self.random.randrange(3 * self.frames + 1)
+        count = (
+            self.frames
+            if self.random.random() < 0.5
+            else self.random.randrange(3 * self.frames + 1)
+        )
         payload = self.random.randbytes(count * self.inputs[source] * self.bits[source] // 8)
         packet = self.around(self.head(self.frame(ticks)), payload)
         chance = self.random.random()
@@ -139,7 +172,9 @@ class Captures:
         if op == 0:
             return b"\0"
         ticks = self.random.randint(0, 6) + (self.base if op == 1 else 0)
-        nanos = max(0, ticks * self.frames * model.BILLION // 48000 + self.random.choice([-1, 0, 0, 1]))
+        nanos = max(
+            0, ticks * self.frames * model.BILLION // 48000 + self.random.choice([-1, 0, 0, 1])
+        )
         if self.random.random() < 0.05:
             nanos = model.SECONDS * model.BILLION - self.random.randint(1, 50_000)
         seconds, nanos = divmod(nanos, model.BILLION)
@@ -165,7 +200,9 @@ class Captures:
         records = [self.request() for _ in range(self.random.randint(0, 12))]
         while claims > 0:
             part = self.random.randint(0, claims)
-            records.insert(self.random.randint(0, len(records)), model.record(b"T", part.to_bytes(4, "big")))
+            records.insert(
+                self.random.randint(0, len(records)), model.record(b"T", part.to_bytes(4, "big"))
+            )
             claims -= part
         for source in range(len(self.inputs)):
             for _ in range(self.random.randint(0, ticks + 3)):
@@ -176,7 +213,9 @@ class Captures:
         return b"CHMCAP1\n" + self.device() + b"".join(records) + model.record(b"E", b"")
 
     def damaged(self) -> bytes:
-        """A capture with a record twice, two records the other way round, or a byte changed, left out or put in."""
+        """A capture with a record twice, two records the other way round, or a byte changed, left
+        out or put in.
+        """
         records = self.records()
         if records and self.random.random() < 0.3:
             records.insert(self.random.randint(0, len(records)), self.random.choice(records))
@@ -187,19 +226,24 @@ class Captures:
             return self.whole(records)
         data = self.whole(records)
         place = self.random.randrange(len(data))
-        byte = bytes([self.random.choice([0, 1, 2, 254, 255, data[place] ^ 1, self.random.randrange(256)])])
-        return data[:place] + self.random.choice([byte + data[place + 1 :], data[place + 1 :], byte + data[place:]])
+        byte = bytes(
+            [self.random.choice([0, 1, 2, 254, 255, data[place] ^ 1, self.random.randrange(256)])]
+        )
+        return (
+            data[:place]
+            + self.random.choice([byte + data[place + 1 :], data[place + 1 :], byte + data[place:]])
+        )
 
 
 class HttpCaptures(Captures):
-    """Captures with clients that speak HTTP beside those of plain requests; most devices are JSON."""
+    """Captures with clients that speak HTTP beside plain ones; most devices are JSON."""
 
     def device(self) -> bytes:
         if self.random.random() < 0.2:
             return super().device()
         return model.record(b"J", self.json_device())
 
-    def few(self, values: Dict[str, object]) -> Dict[str, object]:
+    def few(self, values: dict[str, object]) -> dict[str, object]:
         """Some of the members that a device need not tell."""
         return {key: value for key, value in values.items() if self.random.random() < 0.5}
 
@@ -209,13 +253,13 @@ class HttpCaptures(Captures):
         forms = [digits.upper(), hyphenated, f"{{{hyphenated}}}", f"urn:uuid:{hyphenated}"]
         return self.random.choice(forms)
 
-    def labels(self, channels: int) -> List[Dict[str, object]]:
+    def labels(self, channels: int) -> list[dict[str, object]]:
         return [{"label": self.random.choice(LABELS), "other": 1} for _ in range(channels)]
 
-    def json_port(self, name: str, channels: int, bits: int) -> Dict[str, object]:
+    def json_port(self, name: str, channels: int, bits: int) -> dict[str, object]:
         return {"id": name, "channels": self.labels(channels), "width": bits}
 
-    def json_input(self, number: int) -> Dict[str, object]:
+    def json_input(self, number: int) -> dict[str, object]:
         one = self.json_port(chr(97 + number), self.inputs[number], self.bits[number])
         one.update({"payload_type": 96, "block_size": self.blocks[number]})
         kind = self.random.choice(["source", "receiver"])
@@ -224,7 +268,7 @@ class HttpCaptures(Captures):
         one.update(self.few({"reordering": False}))
         return one
 
-    def json_output(self, number: int) -> Dict[str, object]:
+    def json_output(self, number: int) -> dict[str, object]:
         row = self.row(self.outputs[number])
         one = self.json_port(chr(120 + number), len(row), self.random.choice([16, 24]))
         one.update({"payload_type": 97, "ssrc": self.random.getrandbits(32)})
@@ -240,7 +284,7 @@ class HttpCaptures(Captures):
 
     def json_device(self) -> bytes:
         """The device of these inputs and outputs; few texts are out of order."""
-        value: Dict[str, object] = {"rate": 48000, "frames": self.frames}
+        value: dict[str, object] = {"rate": 48000, "frames": self.frames}
         value.update({"base": self.base, "hold": self.hold})
         value["inputs"] = [self.json_input(number) for number in range(len(self.inputs))]
         value["outputs"] = [self.json_output(number) for number in range(len(self.outputs))]
@@ -250,7 +294,7 @@ class HttpCaptures(Captures):
         return json.dumps(value, ensure_ascii=is_ascii, indent=indent).encode()
 
     @staticmethod
-    def json_from(cell: bytes) -> Dict[str, object]:
+    def json_from(cell: bytes) -> dict[str, object]:
         return {"input": chr(97 + cell[0]), "channel_index": cell[1]}
 
     def json_cell(self) -> object:
@@ -271,7 +315,7 @@ class HttpCaptures(Captures):
             keys.append(self.random.choice(NO_CHANNELS))
         return {key: self.json_cell() for key in keys}
 
-    def json_action(self) -> Dict[str, object]:
+    def json_action(self) -> dict[str, object]:
         count = self.random.randint(self.random.random() >= 0.1, len(self.outputs))
         action = {}
         for number in self.random.sample(range(len(self.outputs)), count):
@@ -283,7 +327,7 @@ class HttpCaptures(Captures):
     def body(self) -> bytes:
         """The body of a POST, of which few are out of order."""
         when = self.when()
-        activation: Dict[str, object] = {"mode": MODES[when[0]]}
+        activation: dict[str, object] = {"mode": MODES[when[0]]}
         if when[0] > 0:
             seconds, nanos = int.from_bytes(when[1:9], "big"), int.from_bytes(when[9:], "big")
             activation["requested_time"] = f"{seconds}:{nanos}"
@@ -308,7 +352,7 @@ class HttpCaptures(Captures):
             path += self.random.choice(PARTS)
         return API + path + self.random.choice(["", "", "", "?a=1"])
 
-    def fields(self, body: bytes, is_post: bool) -> List[str]:
+    def fields(self, body: bytes, is_post: bool) -> list[str]:
         """The fields of a request, of which few make it be refused, or close."""
         fields = ["Host: chanmap"] + [f"Content-Length: {len(body)}"] * is_post
         if self.random.random() < 0.04:
@@ -330,7 +374,7 @@ class HttpCaptures(Captures):
         lines = [f"{method} {target} {version}", *self.fields(body, method == "POST"), "", ""]
         return self.random.choice([b"", b"", b"\r\n"]) + end.join(lines).encode() + body
 
-    def stream(self) -> List[bytes]:
+    def stream(self) -> list[bytes]:
         """The bytes of a client, in pieces."""
         data = b"".join(self.http() for _ in range(self.random.randint(1, 5)))
         if self.random.random() < 0.05:

@@ -1,5 +1,5 @@
-"""Tests of the built program from outside: its words, streams, statuses and lines, and its results beside those of
-tools/model.py.
+"""Tests of the built program from outside: its words, streams, statuses and lines, and its results
+beside those of tools/tests/model.py.
 
 Run: python3 tools/tests/test_program.py     (the program must be built: `rt run` in crates/chanmap)
 """
@@ -16,8 +16,8 @@ import tempfile
 import unittest
 
 sys.dont_write_bytecode = True
-sys.path[:0] = [str(folder) for folder in pathlib.Path(__file__).resolve().parents[:2]]
-import model  # noqa: E402 (it stands one folder above)
+sys.path.insert(0, str(pathlib.Path(__file__).resolve().parent))
+import model  # noqa: E402 (these stand beside this file)
 from captures import Captures, HttpCaptures  # noqa: E402
 
 CRATE = pathlib.Path(__file__).resolve().parents[2] / "crates" / "chanmap"
@@ -30,7 +30,9 @@ USAGE = b"usage: chanmap serial\n"
 
 def run(words: list[str | bytes], data: bytes = b"", **options) -> tuple[int, bytes, bytes]:
     """The status, and what went to standard output and standard error."""
-    done = subprocess.run([str(PROGRAM), *words], input=data, capture_output=True, timeout=120, check=False, **options)
+    done = subprocess.run(
+        [str(PROGRAM), *words], input=data, capture_output=True, timeout=120, check=False, **options
+    )
     return done.returncode, done.stdout, done.stderr
 
 
@@ -44,7 +46,9 @@ class Words(unittest.TestCase):
         self.assertEqual(run(["serial"], CAPTURE), (0, RESULT, b""))
 
     def test_other_words(self) -> None:
-        for words in ([], [""], ["play"], ["serial", "serial"], ["serial", ""], ["Serial"], ["--help"]):
+        for words in (
+            [], [""], ["play"], ["serial", "serial"], ["serial", ""], ["Serial"], ["--help"]
+        ):
             with self.subTest(words=words):
                 self.assertEqual(run(words, CAPTURE), (2, b"", USAGE))
 
@@ -77,7 +81,13 @@ class Input(unittest.TestCase):
     def test_input_that_cannot_be_read(self) -> None:
         directory = os.open(CRATE, os.O_RDONLY)
         try:
-            done = subprocess.run([str(PROGRAM), "serial"], stdin=directory, capture_output=True, timeout=120, check=False)
+            done = subprocess.run(
+                [str(PROGRAM), "serial"],
+                stdin=directory,
+                capture_output=True,
+                timeout=120,
+                check=False,
+            )
         finally:
             os.close(directory)
         self.assertEqual((done.returncode, done.stdout, done.stderr), (3, b"", b"read fault\n"))
@@ -85,7 +95,11 @@ class Input(unittest.TestCase):
     def test_pieces(self) -> None:
         """The input comes byte by byte."""
         with subprocess.Popen(
-            [str(PROGRAM), "serial"], stdin=subprocess.PIPE, stdout=subprocess.PIPE, stderr=subprocess.PIPE, bufsize=0
+            [str(PROGRAM), "serial"],
+            stdin=subprocess.PIPE,
+            stdout=subprocess.PIPE,
+            stderr=subprocess.PIPE,
+            bufsize=0,
         ) as program:
             for byte in CAPTURE:
                 program.stdin.write(bytes([byte]))
@@ -106,7 +120,12 @@ class Output(unittest.TestCase):
     def test_output_that_cannot_be_written(self) -> None:
         with open("/dev/full", "wb") as full:
             done = subprocess.run(
-                [str(PROGRAM), "serial"], input=CAPTURE, stdout=full, stderr=subprocess.PIPE, timeout=120, check=False
+                [str(PROGRAM), "serial"],
+                input=CAPTURE,
+                stdout=full,
+                stderr=subprocess.PIPE,
+                timeout=120,
+                check=False,
             )
         self.assertEqual((done.returncode, done.stderr), (4, b"write fault\n"))
 
@@ -115,7 +134,12 @@ class Output(unittest.TestCase):
         os.close(reader)
         try:
             done = subprocess.run(
-                [str(PROGRAM), "serial"], input=CAPTURE, stdout=writer, stderr=subprocess.PIPE, timeout=120, check=False
+                [str(PROGRAM), "serial"],
+                input=CAPTURE,
+                stdout=writer,
+                stderr=subprocess.PIPE,
+                timeout=120,
+                check=False,
             )
         finally:
             os.close(writer)
@@ -123,7 +147,14 @@ class Output(unittest.TestCase):
 
     def test_a_line_that_cannot_be_written(self) -> None:
         with open("/dev/full", "wb") as full:
-            done = subprocess.run([str(PROGRAM)], input=b"", stdout=subprocess.PIPE, stderr=full, timeout=120, check=False)
+            done = subprocess.run(
+                [str(PROGRAM)],
+                input=b"",
+                stdout=subprocess.PIPE,
+                stderr=full,
+                timeout=120,
+                check=False,
+            )
         self.assertEqual((done.returncode, done.stdout), (2, b""))
 
     def test_a_closed_stream(self) -> None:
@@ -146,12 +177,16 @@ class Memory(unittest.TestCase):
         self.assertEqual(run(["serial"], CAPTURE, preexec_fn=limit), (0, RESULT, b""))
 
     def test_want_of_memory_for_the_words(self) -> None:
-        """Between too little memory to start with words of 1.8 MB and enough to copy them, the copy finds none."""
+        """Between too little memory to start with words of 1.8 MB and enough to copy them, the copy
+        finds none.
+        """
         words = ["x" * 100_000] * 18
         seen = set()
         for half_megabytes in range(6, 24):
             limit = half_megabytes << 19
-            status, out, err = run(words, preexec_fn=lambda: resource.setrlimit(resource.RLIMIT_AS, (limit, limit)))
+            status, out, err = run(
+                words, preexec_fn=lambda: resource.setrlimit(resource.RLIMIT_AS, (limit, limit))
+            )
             if status != 127:  # it could be loaded
                 self.assertIn((status, out, err), [(12, b"", b"no memory\n"), (2, b"", USAGE)])
                 seen.add(status)
@@ -159,7 +194,10 @@ class Memory(unittest.TestCase):
 
 
 API = b"/x-nmos/channelmapping/v1.0"
-ACTION = b'{"activation":{"mode":"activate_immediate"},"action":{"x":{"0":{"input":"a","channel_index":1}}}}'
+ACTION = (
+    b'{"activation":{"mode":"activate_immediate"},'
+    b'"action":{"x":{"0":{"input":"a","channel_index":1}}}}'
+)
 
 
 def post(body: bytes, length: int | None = None) -> bytes:
@@ -171,7 +209,9 @@ POST = post(ACTION)
 
 
 def get(target: bytes, *fields: bytes) -> bytes:
-    return b"".join([b"GET ", target, b" HTTP/1.1\r\n", *(one + b"\r\n" for one in fields), b"\r\n"])
+    return b"".join(
+        [b"GET ", target, b" HTTP/1.1\r\n", *(one + b"\r\n" for one in fields), b"\r\n"]
+    )
 
 
 def limits_of_streams() -> dict[str, tuple[bytes, list[int]]]:
@@ -270,7 +310,7 @@ class Model(unittest.TestCase):
         self.assertGreater(certain, 1200)
 
     def statuses(self, pieces: list[bytes]) -> list[int]:
-        """The statuses of the responses to a stream in pieces, each behind a tick of claims."""
+        """The statuses of the responses to a stream in pieces, each after a tick of claims."""
         data = CAPTURE[:65]
         for piece in pieces:
             data += model.record(b"T", (2).to_bytes(4, "big"))

@@ -222,13 +222,17 @@ class Records(unittest.TestCase):
             ],
         )
         view = View()
-        capture = CAPTURE_MAGIC + record("J", text.encode().hex()) + record("P", "00" + "80" * 11) + END
+        capture = (
+            CAPTURE_MAGIC + record("J", text.encode().hex()) + record("P", "00" + "80" * 11) + END
+        )
         list(read(bytes.fromhex(capture), view))
         self.assertEqual(view.device.outputs, [Port("x", 2, 24)])
         self.assertEqual((view.device.rate, view.device.frames, view.device.base), (48000, 2, 0))
 
     def test_a_device_as_json_that_says_no_lines(self) -> None:
-        for text in ("", "[]", "1", '{"rate":1,"frames":1,"inputs":[],"outputs":[{}]}', "\xff", '{"a":'):
+        for text in (
+            "", "[]", "1", '{"rate":1,"frames":1,"inputs":[],"outputs":[{}]}', "\xff", '{"a":'
+        ):
             with self.subTest(text=text):
                 shown = line_of("J", text.encode("latin-1").hex(), False)
                 self.assertEqual(shown, f"device   JSON {quoted(text.encode('latin-1'))}")
@@ -292,7 +296,8 @@ class Records(unittest.TestCase):
             f"03 01 {one} 00 {two} ff00 ff00 ff00 ff00": "active, id 1, at once, tick 2: "
             "x 0 <- unrouted, x 1 <- unrouted, y 0 <- unrouted, y 1 <- unrouted",
             "04 00": "pending, none",
-            f"04 02 {one} 01 {two} 00000003 {two} 01 00 01 00 ff00 {two} 02 {one} 00000000 {one} 01 01 00": "pending, "
+            f"04 02 {one} 01 {two} 00000003 {two} 01 00 01 00 ff00 {two} 02 {one} 00000000 {one} "
+            "01 01 00": "pending, "
             "id 1, at 2:3, tick 2: x 0 <- unrouted; id 2, after 1:0, tick 1: y as it is",
             "10": "refused, no output named",
             "11 09": "refused, output #9 isn't there",
@@ -325,7 +330,8 @@ class Records(unittest.TestCase):
         expected = {
             f"80e0 {head} 0102 0304": f"{fields}, marker, 4 payload bytes: 0102 0304",
             f"8260 {head} 00000001 00000002 0102": f"{fields}, 2 CSRCs, 2 payload bytes: 0102",
-            f"9060 {head} abcd 0001 00000009 0102": f"{fields}, extension of 1 word, 2 payload bytes: 0102",
+            f"9060 {head} abcd 0001 00000009 0102": f"{fields}, "
+            "extension of 1 word, 2 payload bytes: 0102",
             f"a060 {head} 0102 0002": f"{fields}, 2 padding bytes, 2 payload bytes: 0102",
             f"8060 {head}": f"{fields}, 0 payload bytes",
             f"4060 {head}": "no RTP packet (RTP version 1), 12 bytes",
@@ -357,7 +363,9 @@ class Faults(unittest.TestCase):
             with self.subTest(length=length):
                 lines, faults = lines_of(data[:length])
                 self.assertEqual(len(faults), 0 if length == len(CAPTURE) else 1)
-                self.assertTrue(all(line == lines[-1] and line.startswith("cut at ") for line in faults))
+                self.assertTrue(
+                    all(line == lines[-1] and line.startswith("cut at ") for line in faults)
+                )
 
     def test_unknown(self) -> None:
         for data, fault in [
@@ -367,11 +375,26 @@ class Faults(unittest.TestCase):
             (CAPTURE_MAGIC + "43 00000000" + END, "unknown at 8: capture record with tag 43"),
             (RESULT_MAGIC + "44 00000000" + END, "unknown at 8: result record with tag 44"),
             (CAPTURE_MAGIC + record("A", "00 06") + END, "unknown at 8: op 06 (record 41)"),
-            (CAPTURE_MAGIC + record("A", "00 00 01 00 01 00 ff01") + END, "unknown at 8: cell ff 01 (record 41)"),
-            (RESULT_MAGIC + record("R", "00" * 17 + "02") + END, "unknown at 8: form 02 (record 52)"),
-            (RESULT_MAGIC + record("R", "00" * 17 + "01 05") + END, "unknown at 8: reply code 05 (record 52)"),
-            (RESULT_MAGIC + record("R", "00" * 17 + "01 14 00 06 00") + END, "unknown at 8: check 06 (record 52)"),
-            (RESULT_MAGIC + record("C", "00" * 8 + "01 0260") + END, "unknown at 8: RTP version 0 (record 43)"),
+            (
+                CAPTURE_MAGIC + record("A", "00 00 01 00 01 00 ff01") + END,
+                "unknown at 8: cell ff 01 (record 41)",
+            ),
+            (
+                RESULT_MAGIC + record("R", "00" * 17 + "02") + END,
+                "unknown at 8: form 02 (record 52)",
+            ),
+            (
+                RESULT_MAGIC + record("R", "00" * 17 + "01 05") + END,
+                "unknown at 8: reply code 05 (record 52)",
+            ),
+            (
+                RESULT_MAGIC + record("R", "00" * 17 + "01 14 00 06 00") + END,
+                "unknown at 8: check 06 (record 52)",
+            ),
+            (
+                RESULT_MAGIC + record("C", "00" * 8 + "01 0260") + END,
+                "unknown at 8: RTP version 0 (record 43)",
+            ),
         ]:
             with self.subTest(data=data):
                 self.assertEqual(faults_of(data), [fault])
@@ -379,10 +402,22 @@ class Faults(unittest.TestCase):
     def test_wrong_lengths(self) -> None:
         device = record("D", DEVICE)
         for data, fault in [
-            (CAPTURE_MAGIC + record("T", "000001") + END, "wrong length at 8: field of 4 at 13, 3 there (record 54)"),
-            (CAPTURE_MAGIC + record("T", "0000000100") + END, "wrong length at 8: 1 byte too many (record 54)"),
-            (CAPTURE_MAGIC + record("P", "") + END, "wrong length at 8: field of 1 at 13, 0 there (record 50)"),
-            (CAPTURE_MAGIC + record("D", DEVICE + "0000") + END, "wrong length at 8: 2 bytes too many (record 44)"),
+            (
+                CAPTURE_MAGIC + record("T", "000001") + END,
+                "wrong length at 8: field of 4 at 13, 3 there (record 54)",
+            ),
+            (
+                CAPTURE_MAGIC + record("T", "0000000100") + END,
+                "wrong length at 8: 1 byte too many (record 54)",
+            ),
+            (
+                CAPTURE_MAGIC + record("P", "") + END,
+                "wrong length at 8: field of 1 at 13, 0 there (record 50)",
+            ),
+            (
+                CAPTURE_MAGIC + record("D", DEVICE + "0000") + END,
+                "wrong length at 8: 2 bytes too many (record 44)",
+            ),
             (CAPTURE_MAGIC + "45 00000001 00", "wrong length at 8: 1 byte too many (record 45)"),
             (
                 CAPTURE_MAGIC + device + END + RESULT_MAGIC + record("C", "00" * 9 + "8060") + END,
@@ -459,7 +494,9 @@ class Timeline(unittest.TestCase):
     def test_many_ticks_and_calls(self) -> None:
         device = Device(0, 1, [], [Port("x", 1, 16)], 48000)
         claims = [
-            Record(0, "claim", {"output": "x", "tick": tick, "payload": "0000"}) for tick in range(61)
+            Record(0, "claim", {"output": "x", "tick": tick, "payload": "0000"}) for tick in range(
+                61
+            )
         ]
         asked = {"ask": "activation", "mode": "at once", "action": []}
         calls = [
@@ -558,7 +595,9 @@ class Command(unittest.TestCase):
                 lines = self.picked("--ticks", ticks, "--only", "packet,claim,call")
                 self.assertEqual([int(line.split()[0]) for line in lines], places)
         status, out, err = run("--ticks", "1..2", data=RESULT)
-        self.assertEqual((status, err), (2, "show: --output and --ticks want a device: show CAPTURE RESULT\n"))
+        self.assertEqual(
+            (status, err), (2, "show: --output and --ticks want a device: show CAPTURE RESULT\n")
+        )
 
     def test_words_that_want_a_device(self) -> None:
         line = "show: --timeline wants a device: show --timeline CAPTURE RESULT\n"

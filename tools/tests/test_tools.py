@@ -1,4 +1,4 @@
-"""Tests of tools/make_capture, wav, diff, demo, definitions and pages."""
+"""Tests of tools/make_capture, wav, diff, demo, and of tools/dev."""
 
 from __future__ import annotations
 
@@ -16,8 +16,9 @@ from types import ModuleType
 
 sys.dont_write_bytecode = True
 TOOLS = pathlib.Path(__file__).resolve().parents[1]
-sys.path.insert(0, str(TOOLS))
+sys.path[:0] = [str(TOOLS / folder) for folder in ("", "tests", "dev")]
 import model  # noqa: E402
+import wrapping  # noqa: E402
 from records.text import NotTold, TextFault, capture_of, text_of  # noqa: E402
 
 TOP = TOOLS.parent
@@ -33,15 +34,15 @@ output y: 1 channel, L24, type 97
 
 def program(name: str) -> ModuleType:
     """A tool as a module."""
-    loader = importlib.machinery.SourceFileLoader(name, str(TOOLS / name))
-    module = importlib.util.module_from_spec(importlib.util.spec_from_loader(name, loader))
-    sys.modules[name] = module
+    loader = importlib.machinery.SourceFileLoader(pathlib.Path(name).name, str(TOOLS / name))
+    spec = importlib.util.spec_from_loader(loader.name, loader)
+    module = sys.modules[loader.name] = importlib.util.module_from_spec(spec)
     loader.exec_module(module)
     return module
 
 
-definitions = program("definitions")
-pages = program("pages")
+definitions = program("dev/definitions")
+pages = program("dev/pages")
 
 
 def run(tool: str, *words: str, data: bytes = b"") -> tuple[int, bytes, str]:
@@ -51,7 +52,7 @@ def run(tool: str, *words: str, data: bytes = b"") -> tuple[int, bytes, str]:
 
 
 def records_of(data: bytes) -> str:
-    """The bytes behind the device's record and before the last one."""
+    """The bytes after the device's record and before the last one."""
     start = 8 + 5 + int.from_bytes(data[9:13], "big")
     return data[start:-5].hex()
 
@@ -111,7 +112,9 @@ class Texts(unittest.TestCase):
         text = "# before\n#\n" + DEVICE + "work 1 claim # one\n  # behind\npacket #0, ticks 1\n"
         with self.assertRaisesRegex(TextFault, "line 10: '#0' is no field of a packet"):
             capture_of(text)
-        self.assertTrue(capture_of(DEVICE + "stream client 0, a # b").endswith(b"a # b" + CAPTURE[-5:]))
+        self.assertTrue(
+            capture_of(DEVICE + "stream client 0, a # b").endswith(b"a # b" + CAPTURE[-5:])
+        )
 
     def test_short_forms(self) -> None:
         whole = """capture
@@ -136,12 +139,14 @@ end
             "request client 2, activation at once: y as it is": "4100000005020001" + "0100",
             "request client 0, activation after 7:9: x 1 <- unrouted": "410000001400"
             "02000000000000000700000009" + "0100" + "01" + "01ff00",
-            "request client 0, activation at 7:9: x 0 <- a 1, x 1 <- a 0, y 0 <- #4 5": "410000001c00"
+            "request client 0, activation at 7:9: x 0 <- a 1, x 1 <- a 0, y 0 <- #4 5": "41"
+            "0000001c00"
             "01000000000000000700000009" + "02" + "0002" + "000001" + "010000" + "0101" + "000405",
             "request client 1, deletion of id 258": "410000000a01030000000000000102",
             "request client 1, reading of the active map": "41000000020104",
             "request client 1, reading of the pending activations": "41000000020105",
-            "stream client 1, GET / HTTP/1.1\\r\\n\\xff\\\\": "5100000013" "01" + b"GET / HTTP/1.1\r\n\xff\\".hex(),
+            "stream client 1, GET / HTTP/1.1\\r\\n\\xff\\\\": "5100000013" "01"
+            + b"GET / HTTP/1.1\r\n\xff\\".hex(),
             "http client 1, GET map": "5100000040" "01"
             + b"GET /x-nmos/channelmapping/v1.0/map HTTP/1.1\r\nHost: chanmap\r\n\r\n".hex(),
             "http client 1, GET /x, close": "5100000036" "01"
@@ -304,10 +309,67 @@ class Demo(unittest.TestCase):
         self.assertTrue(err.endswith("\nrefused: not-yet\n"))
 
     def test_words(self) -> None:
-        self.assertEqual(self.demo("--help")[0], 0)
-        for words in (["a", "b"], ["--keep"], ["no such file"], ["/"]):
+        for words in (["--help"], ["--version"], ["stdin", "-h"]):
+            with self.subTest(words=words):
+                self.assertEqual(self.demo(*words)[0], 0)
+        for words in (
+            ["a", "b"],
+            ["--keep"],
+            ["--keep="],
+            ["--kept", "x"],
+            ["no such file"],
+            ["/"],
+            [""],
+            ["--", "--help"],
+        ):
             with self.subTest(words=words):
                 self.assertEqual(self.demo(*words)[:2], (2, ""))
+
+    def test_options_in_any_place(self) -> None:
+        example = str(TOP / "examples" / "mid_tick_activation.txt")
+        for words in (["--keep", "", example], [example, "--keep", ""], [example, "--keep="]):
+            with self.subTest(words=words), tempfile.TemporaryDirectory() as folder:
+                asked = [word + folder if word in ("", "--keep=") else word for word in words]
+                status = self.demo(*asked, rt="cat >/dev/null; cat stdout")[0]
+                self.assertEqual(status, 0)
+                self.assertEqual((pathlib.Path(folder) / "capture").read_bytes(), CAPTURE)
+
+
+class Words(unittest.TestCase):
+    """What each tool makes of its words."""
+
+    TOOLS = ["show", "make_capture", "wav", "diff", "dev/pages", "dev/definitions"]
+    TOOLS += ["dev/block_cases.py", "dev/core_cases.py", "../bench/bench", "../bench/calls"]
+
+    def test_help_and_version(self) -> None:
+        for tool in self.TOOLS:
+            with self.subTest(tool=tool):
+                status, out, err = run(tool, "--help")
+                self.assertEqual((status, err), (0, ""))
+                self.assertRegex(out.decode(), r"\nexamples?:\n")
+                status, out, err = run(tool, "--version")
+                self.assertEqual((status, err), (0, ""))
+                self.assertTrue(out.startswith(pathlib.Path(tool).name.encode() + b" 1.0, of"))
+
+    def test_wrong_words(self) -> None:
+        for words in (
+            *([tool, "--no-such-option"] for tool in self.TOOLS),
+            ["show", "a", "b", "c"],
+            ["dev/pages", "--list", "nope"],
+            ["dev/pages", "--list", ""],
+            ["dev/block_cases.py", "--check", "x"],
+            ["../bench/bench", "nope"],
+            ["../bench/bench", "--make", "x", "f"],
+            ["../bench/bench", "--make", "0", "f"],
+            ["../bench/bench", "heavy", "one_frame", "--make", "4", "f"],
+            ["../bench/bench", "--turns", "0"],
+            ["../bench/calls", "nope"],
+            ["../bench/calls", "--turns", "0"],
+        ):
+            with self.subTest(words=words):
+                status, out, err = run(*words)
+                self.assertEqual((status, out), (2, b""))
+                self.assertNotIn("Traceback", err)
 
 
 class Definitions(unittest.TestCase):
@@ -322,13 +384,20 @@ class Definitions(unittest.TestCase):
             "-- The head.\n-- (RFC 3550.)\nuse A.{b}\n\nabbrev pub bare : ℕ\nbare = 0\n\n"
             "-- ---- a part\n\n-- one,\n-- two\nunfoldable pub two : ℕ\ntwo = 2\n\n"
             "-- joined\ninfixl 10 ◌>>=◌\nabbrev pub ◌>>=◌ : ℕ\n\n"
-            "-- a record\npub record Three : Type 0 where\n  pub x : ℕ\n\n-- ---- next\nabbrev four : ℕ\n"
+            "-- a record\npub record Three : Type 0 where\n  pub x : ℕ\n\n"
+            "-- ---- next\nabbrev four : ℕ\n"
             "-- a law\npub five : ℕ\n"
         )
         self.assertEqual(spec.head, "The head. (RFC 3550.)")
         self.assertEqual(
             [(one.name, one.comment) for one in spec.definitions],
-            [("bare", ""), ("two", "one, two"), ("◌>>=◌", "joined"), ("Three", "a record"), ("four", "")],
+            [
+                ("bare", ""),
+                ("two", "one, two"),
+                ("◌>>=◌", "joined"),
+                ("Three", "a record"),
+                ("four", ""),
+            ],
         )
         self.assertEqual(self.spec("-- the head\nabbrev pub one : ℕ\n").definitions[0].comment, "")
 
@@ -336,12 +405,17 @@ class Definitions(unittest.TestCase):
 class Pages(unittest.TestCase):
     def test_functions(self) -> None:
         text = (
-            "pub fn free(x: u8) -> u8\n    ensures { a }\n{\n    x\n}\n\nfn own(x: u8) -> u8\n    ensures named { a }\n"
-            "{\n    x\n}\n\nimpl<R: Read> Some<R> {\n    pub fn new(\n        x: u8,\n    ) -> Some<R>\n"
-            "        ensures one { a }\n        ensures two { b }\n    {\n        Some\n    }\n\n    fn own(&self) {}\n}\n\n"
-            "impl Source for Some<u8> {\n    fn read(&self)\n        ensures three { a }\n    {\n    }\n\n    fn plain(&self) {}\n}\n\n"
+            "pub fn free(x: u8) -> u8\n    ensures { a }\n{\n    x\n}\n\n"
+            "fn own(x: u8) -> u8\n    ensures named { a }\n"
+            "{\n    x\n}\n\n"
+            "impl<R: Read> Some<R> {\n    pub fn new(\n        x: u8,\n    ) -> Some<R>\n"
+            "        ensures one { a }\n        ensures two { b }\n    {\n        Some\n    }\n\n"
+            "    fn own(&self) {}\n}\n\n"
+            "impl Source for Some<u8> {\n    fn read(&self)\n        ensures three { a }\n"
+            "    {\n    }\n\n    fn plain(&self) {}\n}\n\n"
             "pub trait Source {\n    fn read(&self)\n        ensures four { a };\n}\n\n"
-            "pub fn law()\n    ensures five { a\n        b }\n{}\n\nfn own()\n    ensures six {\n        a }\n{}\n"
+            "pub fn law()\n    ensures five { a\n        b }\n{}\n\n"
+            "fn own()\n    ensures six {\n        a }\n{}\n"
         )
         with tempfile.TemporaryDirectory() as folder:
             path = pathlib.Path(folder) / "some.rt"
@@ -351,14 +425,29 @@ class Pages(unittest.TestCase):
         expected += ["law (five)"]
         self.assertEqual(found, expected)
 
-    def test_a_line_names_a_function(self) -> None:
+    def test_an_item_names_a_function(self) -> None:
         function = pages.Function("Some", "new", ("one", "two"))
         for line, holds in (
             ("- `Some::new` (`one`, `two`): x", True),
+            ("- `Some::new` (`one`,\n  `two`): x", True),
+            ("- `Some::new` (`one`)\n- `two`", False),
             ("- `Some::new` (`one`): two", False),
             ("- `new` (`one`, `two`)", False),
         ):
             self.assertEqual(function.words() <= pages.named(line)[0], holds)
+
+    def test_wrapping(self) -> None:
+        words = "word " * 18 + "`two words` "
+        table, code = "| " + "a" * 120 + " |", "```\n" + "b " * 80 + "\n```"
+        text = f"# {'c ' * 60}\n\n{words}+ 1 of\nthese\n\n- {words}end\n- next\n\n{table}\n{code}\n"
+        made = wrapping.wrapped(text)
+        self.assertEqual(list(wrapping.wide_lines(text)), [3, 6])
+        self.assertEqual(list(wrapping.wide_lines(made)), [])
+        self.assertEqual(wrapping.wrapped(made), made)
+        self.assertEqual(made.split(), text.split())
+        self.assertIn("word\n`two words` + 1 of these\n", made)
+        self.assertIn("word\n  `two words` end\n- next\n", made)
+        self.assertIn(f"\n{table}\n{code}\n", made)
 
 
 if __name__ == "__main__":

@@ -1,6 +1,6 @@
-"""Tests of bench's yardstick beside tools/model.py: the same results, the same lines of faults.
+"""Tests of bench's yardstick beside tools/tests/model.py: the same results and lines of faults.
 
-Run: python3 tools/tests/test_yardstick.py     (skipped where rustc isn't there)
+Run: python3 tools/tests/test_yardstick.py     (skipped where rustc is not there)
 """
 
 from __future__ import annotations

@@ -8,7 +8,7 @@ from __future__ import annotations
 
 import json
 from dataclasses import dataclass
-from typing import Dict, List, Optional, Tuple, Union
+from typing import Optional, Union
 
 MOST_HEAD = 8192
 MOST_FIELDS = 64
@@ -64,7 +64,7 @@ class Head:
     def __init__(self, data: bytes) -> None:
         self.data = data
         self.at = 0
-        self.fields: List[Tuple[bytes, bytes]] = []
+        self.fields: list[tuple[bytes, bytes]] = []
         while self.peek() in b"\r\n":
             self.line_end()
         self.method = self.run(TOKEN)
@@ -102,7 +102,7 @@ class Head:
         return self.data[start : self.at]
 
     def run_of_target(self) -> bytes:
-        """The target, which is UTF-8; of another the page doesn't say when it is refused."""
+        """The target, which is UTF-8; of another the page does not say when it is refused."""
         start = self.at
         try:
             target = self.run(TARGET)
@@ -128,10 +128,10 @@ class Head:
         self.line_end()
         self.fields.append((name.lower(), value.strip(b" \t")))
 
-    def values(self, name: bytes) -> List[bytes]:
+    def values(self, name: bytes) -> list[bytes]:
         return [value for one, value in self.fields if one == name]
 
-    def framing(self) -> Union[int, Tuple[int]]:
+    def framing(self) -> Union[int, tuple[int]]:
         """The body's length, or the status with which the head is refused."""
         lengths = self.values(b"content-length")
         if self.values(b"transfer-encoding"):
@@ -157,7 +157,7 @@ class HttpStream:
         self.held = b""
         self.ended = False
 
-    def feed(self, piece: bytes) -> List[Union[HttpRequest, int]]:
+    def feed(self, piece: bytes) -> list[Union[HttpRequest, int]]:
         """The requests that the piece makes whole, and the status where the stream is refused."""
         answers = []
         self.held += piece
@@ -237,7 +237,7 @@ OUTPUT_PARTS = ("properties", "sourceid", "channels", "caps")
 FIXED = ("inputs", "outputs", "io", "map/activations", "map/active")
 BELOW = {"map/activations": "activation", "map/active": "row"}
 METHODS = {"activations": ("GET", "POST"), "activation": ("GET", "DELETE")}
-NAMES: Dict[str, List[str]] = {
+NAMES: dict[str, list[str]] = {
     "/": ["x-nmos"],
     "/x-nmos": ["channelmapping"],
     "/x-nmos/channelmapping": ["v1.0"],
@@ -246,12 +246,12 @@ NAMES: Dict[str, List[str]] = {
 }
 
 
-def names(of: List[str]) -> bytes:
+def names(of: list[str]) -> bytes:
     return compact([f"{name}/" for name in of])
 
 
 def cut(path: bytes) -> str:
-    """The path without one trailing slash; of one that isn't UTF-8, a text that is no resource."""
+    """The path without one trailing slash; of one that is not UTF-8, a text that is no resource."""
     if len(path) > 1 and path.endswith(b"/"):
         path = path[:-1]
     return path.decode("utf-8", "replace")
@@ -266,7 +266,7 @@ class Resource:
     part: str = ""
 
     @property
-    def methods(self) -> Tuple[str, ...]:
+    def methods(self) -> tuple[str, ...]:
         return METHODS.get(self.kind, ("GET",))
 
     @property

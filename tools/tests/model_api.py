@@ -8,7 +8,8 @@ from __future__ import annotations
 import json
 import math
 import re
-from typing import Any, Callable, Dict, List, Optional, Tuple, Union
+from collections.abc import Callable
+from typing import Any, Optional, Union
 
 from model_book import BILLION, SECONDS, WIDTHS, Book, Call, Cell, Changes, Device, Misread
 from model_book import Port, Request, Row, Texts, cell_bytes, check_device, require
@@ -86,7 +87,7 @@ def text(value: Any) -> str:
     return value
 
 
-def listed(value: Any) -> List[Any]:
+def listed(value: Any) -> list[Any]:
     require(isinstance(value, list))
     return value
 
@@ -105,7 +106,7 @@ def uuid_text(value: Any) -> str:
 # ---- the device
 
 
-def parent(value: Any) -> Optional[Tuple[str, str]]:
+def parent(value: Any) -> Optional[tuple[str, str]]:
     if value is None:
         return None
     kind, uuid = text(member(value, "type")), uuid_text(member(value, "id"))
@@ -133,8 +134,8 @@ def json_input(value: Any) -> Port:
     return port
 
 
-def json_output(value: Any, inputs: List[Port]) -> Port:
-    places: Dict[str, int] = {}
+def json_output(value: Any, inputs: list[Port]) -> Port:
+    places: dict[str, int] = {}
     for place, port in enumerate(inputs):
         places.setdefault(port.name.decode("utf-8"), place)
 
@@ -183,7 +184,7 @@ def fault(word: str) -> Fault:
     return Fault(f"body shape: {word}")
 
 
-def time_of(value: Any) -> Optional[Tuple[int, int]]:
+def time_of(value: Any) -> Optional[tuple[int, int]]:
     """The time of a text `seconds:nanoseconds`, where it is one."""
     parts = value.split(":") if isinstance(value, str) and value.isascii() else []
     if len(parts) != 2 or not all(part.isdigit() for part in parts):
@@ -209,11 +210,11 @@ def number_below(most: int, key: str) -> Optional[int]:
     return int(key) if str(int(key)) == key else None
 
 
-def place(ports: List[Port], name: str) -> Optional[int]:
+def place(ports: list[Port], name: str) -> Optional[int]:
     return next((number for number, port in enumerate(ports) if port.id == name), None)
 
 
-def posted_cell(device: Device, key: str, value: Any) -> Tuple[int, Cell]:
+def posted_cell(device: Device, key: str, value: Any) -> tuple[int, Cell]:
     channel = number_below(255, key)
     if channel is None or not isinstance(value, dict):
         raise fault("cell")
@@ -228,7 +229,7 @@ def posted_cell(device: Device, key: str, value: Any) -> Tuple[int, Cell]:
     return channel, (source, index)
 
 
-def posted_changes(device: Device, action: Dict[str, Any]) -> Changes:
+def posted_changes(device: Device, action: dict[str, Any]) -> Changes:
     """Outputs in the device's order, channels by number; faults in the order of the keys' bytes."""
     changes: Changes = {}
     for name in sorted(action):
@@ -274,12 +275,12 @@ def time_text(nanos: int) -> str:
     return f"{nanos // BILLION}:{nanos % BILLION}"
 
 
-def cell_json(device: Device, cell: Cell) -> Dict[str, Any]:
+def cell_json(device: Device, cell: Cell) -> dict[str, Any]:
     source = None if cell is None else device.inputs[cell[0]].id
     return {"channel_index": None if cell is None else cell[1], "input": source}
 
 
-def activation_json(device: Device, call: Optional[Call]) -> Dict[str, Any]:
+def activation_json(device: Device, call: Optional[Call]) -> dict[str, Any]:
     if call is None:
         return {"activation_time": None, "mode": None, "requested_time": None}
     requested = time_text(call.request.nanos) if call.request.op > 0 else None
@@ -287,7 +288,7 @@ def activation_json(device: Device, call: Optional[Call]) -> Dict[str, Any]:
     return {"activation_time": start, "mode": MODES[call.request.op], "requested_time": requested}
 
 
-def item_json(device: Device, call: Call) -> Dict[str, Any]:
+def item_json(device: Device, call: Call) -> dict[str, Any]:
     action = {}
     for output, cells in call.request.changes.items():
         row = {str(channel): cell_json(device, cell) for channel, cell in cells.items()}
@@ -295,8 +296,8 @@ def item_json(device: Device, call: Call) -> Dict[str, Any]:
     return {"action": action, "activation": activation_json(device, call)}
 
 
-def map_json(device: Device, rows: Dict[int, Row]) -> Dict[str, Any]:
-    def row_json(row: Row) -> Dict[str, Any]:
+def map_json(device: Device, rows: dict[int, Row]) -> dict[str, Any]:
+    def row_json(row: Row) -> dict[str, Any]:
         return {str(channel): cell_json(device, cell) for channel, cell in enumerate(row)}
 
     return {device.outputs[output].id: row_json(row) for output, row in rows.items()}
@@ -321,8 +322,8 @@ def part_json(device: Device, kind: str, port: Port, part: str) -> Any:
     return {"routable_inputs": choices}
 
 
-def io_json(device: Device) -> Dict[str, Any]:
-    def all_parts(kind: str, port: Port, parts: Tuple[str, ...]) -> Dict[str, Any]:
+def io_json(device: Device) -> dict[str, Any]:
+    def all_parts(kind: str, port: Port, parts: tuple[str, ...]) -> dict[str, Any]:
         key = {"sourceid": "source_id"}
         return {key.get(part, part): part_json(device, kind, port, part) for part in parts}
 
@@ -378,7 +379,7 @@ class Api:
         return error(404, "unknown resource") if value is None else Said(200, value)
 
     def fixed(self, found: Resource) -> Optional[bytes]:
-        """What a resource says that no activation changes; None where its port isn't there."""
+        """What a resource says that no activation changes; None where its port is not there."""
         device = self.device
         if found.kind == "names":
             return names(NAMES[found.name])

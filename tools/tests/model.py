@@ -1,14 +1,16 @@
-"""What `chanmap serial` makes of a capture, after docs/FORMATS.md and the two pages behind it: a second opinion, for tests.
+"""What `chanmap serial` makes of a capture, after docs/FORMATS.md and the two pages after it: a
+second opinion, for tests.
 
-It is written from those pages alone. It goes through the records one by one and builds each packet when its claim is made,
-with the rows known then; the definitions that the proofs stand on take the whole journal instead.
+It is written from those pages alone. It goes through the records one by one and builds each packet
+when its claim is made, with the rows known then; the definitions that the proofs stand on take the
+whole journal instead.
 """
 
 from __future__ import annotations
 
 import struct
 from dataclasses import dataclass
-from typing import Dict, List, Optional, Tuple, Union
+from typing import Optional, Union
 
 from model_api import Api, json_device
 from model_book import BILLION, SECONDS, Book, Cell, Device, Misread, Port, Reader, Request
@@ -23,7 +25,7 @@ TICKS = 256  # the most of a capture
 
 
 class Refused(Exception):
-    """The bytes are no capture: the place of the first record at fault, and the kind of the fault."""
+    """The bytes are no capture: the first fault, by its place and its kind."""
 
     def __init__(self, at: int, kind: str) -> None:
         super().__init__(at, kind)
@@ -34,8 +36,10 @@ class Refused(Exception):
         return f"refused at {self.at}: {self.kind}\n".encode()
 
 
-def read_rtp(data: bytes) -> Optional[Tuple[int, int, bytes]]:
-    """Payload type, timestamp and payload of an RTP packet (RFC 3550 section 5.1), or None where the bytes are none."""
+def read_rtp(data: bytes) -> Optional[tuple[int, int, bytes]]:
+    """Payload type, timestamp and payload of an RTP packet (RFC 3550 section 5.1), or None where
+    the bytes are none.
+    """
     if len(data) < 12 or data[0] >> 6 != 2:
         return None
     rest = data[12:]
@@ -57,24 +61,28 @@ def read_rtp(data: bytes) -> Optional[Tuple[int, int, bytes]]:
 
 
 class Arrivals:
-    """What an input's packets bring to a session: the samples of its frames, counted from the first one."""
+    """What an input's packets bring to a session: the samples of its frames, counted from the first
+    one.
+    """
 
     def __init__(self, device: Device, port: Port, ticks: int) -> None:
         self.device, self.port, self.ticks = device, port, ticks
         self.frames: dict[int, bytes] = {}
-        self.closed = 0  # so many ticks take nothing more
+        self.closed = 0  # the ticks, from the first, that take nothing more
 
     def take(self, data: bytes) -> None:
-        """A packet counts where it is one of RTP with the input's type, holds whole frames and at least one, and begins before the
-        session's end. The first packet that brings a frame of an open tick keeps it. Then ticks close that lie more than `hold` before
-        the packet's last one.
+        """A packet counts where it is one of RTP with the input's type, holds whole frames and at
+        least one, and begins before the session's end. The first packet that brings a frame of an
+        open tick keeps it. Then ticks close that lie more than `hold` before the packet's last one.
         """
         packet = read_rtp(data)
         size = self.port.channels * self.port.width
         if packet is None or packet[0] != self.port.payload_type or len(packet[2]) % size > 0:
             return
         count = len(packet[2]) // size
-        start = (packet[1] - self.device.base * self.device.frames + STAMPS // 2) % STAMPS - STAMPS // 2
+        start = (
+            packet[1] - self.device.base * self.device.frames + STAMPS // 2
+        ) % STAMPS - STAMPS // 2
         if count == 0 or start >= self.ticks * self.device.frames:
             return
         for number in range(max(0, -start), count):
@@ -86,17 +94,23 @@ class Arrivals:
 
     def has_block(self, tick: int) -> bool:
         """Whether a packet brought a frame of the tick."""
-        return any(frame in self.frames for frame in range(tick * self.device.frames, (tick + 1) * self.device.frames))
+        return any(
+            frame in self.frames
+            for frame in range(tick * self.device.frames, (tick + 1) * self.device.frames)
+        )
 
     def sample(self, frame: int, channel: int) -> int:
         """A sample of 24 bits; silence where no packet brought the frame."""
         width = self.port.width
-        data = self.frames.get(frame, bytes(width * self.port.channels))[channel * width : channel * width + width]
+        data = self.frames.get(frame, bytes(width * self.port.channels))[
+            channel * width : channel * width + width
+        ]
         return int.from_bytes(data, "big", signed=True) << (8 * (3 - width))
 
 
-Stamp = Tuple[int, int]  # calls and claims
-Ask = Union[Request, HttpRequest, int]  # a plain request, one of a stream, or the status that refuses a stream
+Stamp = tuple[int, int]  # calls and claims
+# a plain request, one of a stream, or the status that refuses a stream
+Ask = Union[Request, HttpRequest, int]
 
 
 class Client:
@@ -110,15 +124,16 @@ class Client:
 class Player:
     """A device at work: its book, what its inputs brought, and the records of the result so far."""
 
-    def __init__(self, device: Device, arrivals: List[Arrivals]) -> None:
+    def __init__(self, device: Device, arrivals: list[Arrivals]) -> None:
         self.device = device
         self.arrivals = arrivals
         self.book = Book(device)
         self.api = Api(device, self.book)
         self.clients = [Client() for _ in range(CLIENTS)]
-        self.calls: List[Tuple[int, bytes]] = []  # each with its number of claims
-        self.replies: List[Tuple[int, int, int, bytes]] = []  # each with its claims, calls and client
-        self.claims: List[bytes] = []
+        self.calls: list[tuple[int, bytes]] = []  # each with its number of claims
+        # each with its claims, calls and client
+        self.replies: list[tuple[int, int, int, bytes]] = []
+        self.claims: list[bytes] = []
 
     def sample(self, cell: Cell, frame: int) -> int:
         return 0 if cell is None else self.arrivals[cell[0]].sample(frame, cell[1])
@@ -128,9 +143,13 @@ class Player:
         tick = self.device.base + place
         port, row = self.device.outputs[output], self.book.row(output, tick)
         named = {cell[0] for cell in row if cell is not None}
-        found = bytes(source in named and one.has_block(place) for source, one in enumerate(self.arrivals))
+        found = bytes(
+            source in named and one.has_block(place) for source, one in enumerate(self.arrivals)
+        )
         timestamp = tick * self.device.frames % STAMPS
-        packet = struct.pack(">BBHII", 0x80, port.payload_type, tick % (1 << 16), timestamp, port.ssrc)
+        packet = struct.pack(
+            ">BBHII", 0x80, port.payload_type, tick % (1 << 16), timestamp, port.ssrc
+        )
         for frame in range(place * self.device.frames, (place + 1) * self.device.frames):
             for cell in row:
                 sample = self.sample(cell, frame) >> (8 * (3 - port.width))
@@ -138,7 +157,9 @@ class Player:
         self.claims.append(record(b"C", wide(len(self.claims)) + found + packet))
 
     def ask(self, client: int, ask: Ask) -> None:
-        """A reply has the stamp at which the book was asked; else the one from which its client goes on."""
+        """A reply has the stamp at which the book was asked; else the one from which its client
+        goes on.
+        """
         claims, asked = len(self.claims), []
 
         def book(request: Request) -> bytes:
@@ -146,7 +167,9 @@ class Player:
             reply, accepted = self.book.answer(self.device.first(claims), request)
             if accepted is not None:
                 self.book.calls += 1
-                self.calls.append((claims, record(b"H", wide(claims) + bytes([client]) + accepted + request.text)))
+                self.calls.append(
+                    (claims, record(b"H", wide(claims) + bytes([client]) + accepted + request.text))
+                )
             asked.append((calls, accepted is not None))
             return reply
 
@@ -161,7 +184,9 @@ class Player:
         if asked:
             stamp = asked[0][0], claims
             one.next = asked[0][0] + asked[0][1], claims
-        self.replies.append((stamp[1], stamp[0], client, record(b"R", bytes([client]) + wide(*stamp) + said)))
+        self.replies.append(
+            (stamp[1], stamp[0], client, record(b"R", bytes([client]) + wide(*stamp) + said))
+        )
 
     def piece(self, client: int, data: bytes) -> None:
         for ask in self.clients[client].stream.feed(data):
@@ -179,14 +204,15 @@ class Player:
         return b"CHMRES1\n" + b"".join(b"".join(part) for part in parts) + record(b"E", b"")
 
 
-Event = Union[int, Tuple[int, Request], Tuple[int, bytes]]  # so many claims, a client's request, or a piece of its stream
+# a number of claims, a client's request, or a piece of its stream
+Event = Union[int, tuple[int, Request], tuple[int, bytes]]
 
 
 @dataclass
 class Capture:
     device: Device
-    events: List[Event]
-    packets: List[Tuple[int, bytes]]
+    events: list[Event]
+    packets: list[tuple[int, bytes]]
     ticks: int
 
 
@@ -222,7 +248,7 @@ def read_first(records: Records) -> Device:
     return records.read("device", readings[tag], body)
 
 
-def read_item(device: Device, tag: bytes, body: bytes) -> Union[Event, Tuple[int, bytes]]:
+def read_item(device: Device, tag: bytes, body: bytes) -> Union[Event, tuple[int, bytes]]:
     text = Reader(body)
     if tag == b"T":
         claims = text.number(4)
@@ -243,7 +269,9 @@ def read_capture(data: bytes) -> Capture:
             raise Refused(records.at, "order")
         if tag not in b"PQAT":
             raise Refused(records.at, "tag")
-        item = records.read("body", lambda text, tag=tag: read_item(capture.device, tag, text), body)
+        item = records.read(
+            "body", lambda text, tag=tag: read_item(capture.device, tag, text), body
+        )
         (capture.packets if tag == b"P" else capture.events).append(item)
         tag, body = records.next()
     if body != b"":
@@ -258,7 +286,9 @@ def read_capture(data: bytes) -> Capture:
 
 
 def result(data: bytes) -> bytes:
-    """The result of a capture. `Refused` where the bytes are none; `Doubtful` where the pages leave it open."""
+    """The result of a capture. `Refused` where the bytes are none; `Doubtful` where the pages leave
+    it open.
+    """
     capture = read_capture(data)
     arrivals = [Arrivals(capture.device, port, capture.ticks) for port in capture.device.inputs]
     for source, packet in capture.packets:

@@ -1,25 +1,27 @@
-"""The device, its rows and the book of activations, after docs/FORMATS.md: the lower part of model.py."""
+"""The device, its rows and the book of activations, after docs/FORMATS.md: the lower part of
+model.py.
+"""
 
 from __future__ import annotations
 
 from dataclasses import dataclass, field
-from typing import Dict, List, Optional, Tuple
+from typing import Optional
 
 RATES = (44100, 48000, 96000, 192000)
 SECONDS = 1 << 40  # the end of time
 BILLION = 1_000_000_000  # nanoseconds of a second
-PAST_BASE = 1 << 23  # so many ticks from the first one start before it
+PAST_BASE = 1 << 23  # as many ticks from the first one start before it
 PLACES = 512  # of map entries
 WIDTHS = {16: 2, 24: 3}  # the bytes of a sample, by its bits
 ID_BYTES = frozenset(b"0123456789ABCDEFGHIJKLMNOPQRSTUVWXYZabcdefghijklmnopqrstuvwxyz-_")
-Cell = Optional[Tuple[int, int]]  # an input and its channel, or unrouted
-Row = List[Cell]
-Changes = Dict[int, Dict[int, Cell]]  # the cells that an activation sets, by output and channel
-Time = Tuple[int, int]  # seconds and nanoseconds
+Cell = Optional[tuple[int, int]]  # an input and its channel, or unrouted
+Row = list[Cell]
+Changes = dict[int, dict[int, Cell]]  # the cells that an activation sets, by output and channel
+Time = tuple[int, int]  # seconds and nanoseconds
 
 
 class Misread(Exception):
-    """A body has no reading, or says what can't be."""
+    """A body has no reading, or says what cannot be."""
 
 
 def require(holds: bool) -> None:
@@ -56,9 +58,9 @@ class Texts:
     """What is told of an input or output besides its id; a plain device tells none of it."""
 
     name: str
-    labels: List[str]
+    labels: list[str]
     description: str = ""
-    parent: Optional[Tuple[str, str]] = None  # of an input: `source` or `receiver`, and a UUID
+    parent: Optional[tuple[str, str]] = None  # of an input: `source` or `receiver`, and a UUID
     source: Optional[str] = None  # of an output: a UUID
 
 
@@ -73,7 +75,8 @@ class Port:
     block: int = 1
     reorders: bool = True
     ssrc: int = 0
-    routable: Optional[List[Optional[int]]] = None  # inputs, and None for unrouted; all without a list
+    # inputs, and None for unrouted; all without a list
+    routable: Optional[list[Optional[int]]] = None
     row: Row = field(default_factory=list)
     told: Optional[Texts] = None
 
@@ -108,31 +111,49 @@ class Device:
         return self.base - (-claims // len(self.outputs))
 
     def fault(self, output: int, row: Row) -> Optional[bytes]:
-        """Why a row can't be an output's: a check, 1 to 5, and the lowest channel that fails it."""
-        for check in (self.unknown_input, self.unknown_channel, self.not_routable, self.broken_block, self.out_of_order):
+        """Why a row cannot be an output's: a check, 1 to 5, and its lowest failing channel."""
+        for check in (
+            self.unknown_input,
+            self.unknown_channel,
+            self.not_routable,
+            self.broken_block,
+            self.out_of_order,
+        ):
             channel = check(output, row)
             if channel is not None:
                 return bytes([check.number, channel])
         return None
 
     def unknown_input(self, output: int, row: Row) -> Optional[int]:
-        return lowest(channel for channel, cell in enumerate(row) if cell and cell[0] >= len(self.inputs))
+        return lowest(
+            channel for channel, cell in enumerate(row) if cell and cell[0] >= len(self.inputs)
+        )
 
     def unknown_channel(self, output: int, row: Row) -> Optional[int]:
-        return lowest(channel for channel, cell in enumerate(row) if cell and cell[1] >= self.inputs[cell[0]].channels)
+        return lowest(
+            channel
+            for channel, cell in enumerate(row)
+            if cell and cell[1] >= self.inputs[cell[0]].channels
+        )
 
     def not_routable(self, output: int, row: Row) -> Optional[int]:
         allowed = self.outputs[output].routable
         if allowed is None:
             return None
-        return lowest(channel for channel, cell in enumerate(row) if (cell[0] if cell else None) not in allowed)
+        return lowest(
+            channel
+            for channel, cell in enumerate(row)
+            if (cell[0] if cell else None) not in allowed
+        )
 
     def pieces(self, row: Row) -> list[tuple[Port, list[int]]]:
         """The output channels that name an input, in pieces of its block size."""
         found = []
         for number, port in enumerate(self.inputs):
             named = [channel for channel, cell in enumerate(row) if cell and cell[0] == number]
-            found += [(port, named[at : at + port.block]) for at in range(0, len(named), port.block)]
+            found += [
+                (port, named[at : at + port.block]) for at in range(0, len(named), port.block)
+            ]
         return found
 
     def broken_block(self, output: int, row: Row) -> Optional[int]:
@@ -149,7 +170,9 @@ class Device:
         return lowest(
             piece[0]
             for port, piece in self.pieces(row)
-            if not port.reorders and [row[channel][1] for channel in piece] != sorted(row[channel][1] for channel in piece)
+            if not port.reorders and [row[channel][1] for channel in piece] != sorted(
+                row[channel][1] for channel in piece
+            )
         )
 
     unknown_input.number, unknown_channel.number, not_routable.number = 1, 2, 3
@@ -161,7 +184,9 @@ def lowest(channels) -> Optional[int]:
 
 
 def read_port(body: Reader, output: bool) -> Port:
-    port = Port(body.take(body.number(1)), body.number(1), WIDTHS.get(body.number(1), 0), body.number(1))
+    port = Port(
+        body.take(body.number(1)), body.number(1), WIDTHS.get(body.number(1), 0), body.number(1)
+    )
     if output:
         port.ssrc = body.number(4)
         members = body.number(1)
@@ -193,7 +218,9 @@ def check_device(device: Device) -> None:
     require(sum(port.channels for port in device.inputs) <= 128)
     for output, port in enumerate(device.outputs):
         require(device.frames * port.channels * port.width <= 1440)
-        require(all(member is None or member < len(device.inputs) for member in port.routable or []))
+        require(
+            all(member is None or member < len(device.inputs) for member in port.routable or [])
+        )
         require(len(port.row) == port.channels and device.fault(output, port.row) is None)
 
 
@@ -210,7 +237,7 @@ def read_device(data: bytes) -> Device:
 
 @dataclass
 class Request:
-    """What a client asks: its bytes, an op, and what stands behind it."""
+    """What a client asks: its bytes, an op, and what follows it."""
 
     text: bytes
     op: int
@@ -300,7 +327,11 @@ class Book:
         return [row for start, row in self.rows[output] if start <= tick][-1]
 
     def pending(self, first: int) -> list[Call]:
-        return [call for call in self.accepted if call.request.op > 0 and call.tick > first and not call.deleted]
+        return [
+            call
+            for call in self.accepted
+            if call.request.op > 0 and call.tick > first and not call.deleted
+        ]
 
     def land(self, first: int, request: Request) -> Optional[int]:
         """The tick from which an activation counts; None past the end of time."""
@@ -310,8 +341,8 @@ class Book:
         tick = first if request.op == 0 else max(first, self.device.up(start + request.nanos))
         return tick if self.device.start(tick) < SECONDS * BILLION else None
 
-    def refusal(self, first: int, request: Request, rows: Dict[int, Row]) -> Optional[bytes]:
-        """The first reason why an activation isn't accepted, as it stands in a reply."""
+    def refusal(self, first: int, request: Request, rows: dict[int, Row]) -> Optional[bytes]:
+        """The first reason why an activation is not accepted, as it stands in a reply."""
         outputs = self.device.outputs
         if not request.changes:
             return b"\x10"
@@ -327,7 +358,9 @@ class Book:
             if output in held:
                 return bytes([0x13, output])
         for output, cells in request.changes.items():
-            rows[output] = [cells.get(channel, cell) for channel, cell in enumerate(self.row(output, first))]
+            rows[output] = [
+                cells.get(channel, cell) for channel, cell in enumerate(self.row(output, first))
+            ]
             fault = self.device.fault(output, rows[output])
             if fault is not None:
                 return bytes([0x14, output]) + fault
@@ -343,7 +376,7 @@ class Book:
 
     def activate(self, first: int, request: Request) -> tuple[bytes, Optional[bytes]]:
         """The reply, and what an accepted call's record tells: id and tick."""
-        rows: Dict[int, Row] = {}
+        rows: dict[int, Row] = {}
         refused = self.refusal(first, request, rows)
         if refused is not None:
             return refused, None
@@ -352,7 +385,9 @@ class Book:
         self.places += self.need(request)
         for output, row in rows.items():
             self.rows[output].append((call.tick, row))
-        return (b"\0" if request.op == 0 else b"\1") + wide(call.id, call.tick), wide(call.id, call.tick)
+        return (b"\0" if request.op == 0 else b"\1") + wide(call.id, call.tick), wide(
+            call.id, call.tick
+        )
 
     def delete(self, first: int, request: Request) -> tuple[bytes, Optional[bytes]]:
         for call in self.pending(first):
@@ -371,7 +406,11 @@ class Book:
     def active(self, first: int) -> bytes:
         last = self.last(first)
         rows = [self.row(output, first) for output in range(len(self.device.outputs))]
-        return b"\3" + (b"\1" + last.shown if last else b"\0") + b"".join(cell_bytes(cell) for row in rows for cell in row)
+        return (
+            b"\3"
+            + (b"\1" + last.shown if last else b"\0")
+            + b"".join(cell_bytes(cell) for row in rows for cell in row)
+        )
 
     def answer(self, first: int, request: Request) -> tuple[bytes, Optional[bytes]]:
         if request.op <= 2:
@@ -381,4 +420,6 @@ class Book:
         if request.op == 4:
             return self.active(first), None
         items = self.pending(first)
-        return bytes([4, len(items)]) + b"".join(call.shown + call.request.action for call in items), None
+        return bytes([4, len(items)]) + b"".join(
+            call.shown + call.request.action for call in items
+        ), None
