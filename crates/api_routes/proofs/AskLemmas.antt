@@ -7,9 +7,9 @@ use Rattle.io_caps.specs.declared.device.DeviceParts.{DeviceParts}
 use Rattle.http_wire.specs.declared.request.HttpRequest.{HttpRequest}
 use Rattle.http_wire.specs.declared.request.Method.{Method}
 use Rattle.http_wire.specs.declared.request.Method.TheVariants.{Get, Post, Delete as DeleteMethod, Options, Other}
-use Rattle.plain_book.specs.Calls.{is_activation}
-use Rattle.plain_book.specs.declared.requests.Request.{Request}
-use Rattle.plain_book.specs.declared.requests.Request.TheVariants.{Delete, Active as AskActive, Pending as AskPending}
+use Rattle.book_words.specs.Calls.{is_activation}
+use Rattle.book_words.specs.declared.requests.Request.{Request}
+use Rattle.book_words.specs.declared.requests.Request.TheVariants.{Delete, Active as AskActive, Pending as AskPending}
 use Rattle.channel_json.specs.Requests.{request_by}
 use Rattle.channel_json.specs.declared.faults.BodyFault.{BodyFault}
 use Rattle.api_routes.specs.Plan.{asked_by, has_method, is_options, methods_of, plan_at, plan_of, plan_path, plan_route, plan_target, posted, request_asked}

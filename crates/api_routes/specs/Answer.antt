@@ -7,15 +7,15 @@ use Rattle.http_wire.specs.declared.response.Extra.TheVariants.{Nothing}
 use Rattle.http_wire.specs.declared.response.Extra.TheVariants.{Preflight as PreflightLines}
 use Rattle.io_caps.specs.declared.device.DeviceParts.{DeviceParts}
 use Rattle.map_entry.specs.Setup.{SetupParts}
-use Rattle.plain_book.specs.Calls.{action_of, when_of}
+use Rattle.book_words.specs.Calls.{action_of, when_of}
 use Rattle.plain_book.specs.Desk.{IsAsked}
-use Rattle.plain_book.specs.declared.calls.JournalCall.{JournalCall}
-use Rattle.plain_book.specs.declared.replies.PendingItem.{PendingItem}
-use Rattle.plain_book.specs.declared.replies.Reply.{Reply}
-use Rattle.plain_book.specs.declared.replies.Reply.TheVariants.{Activated, Scheduled, Deleted}
-use Rattle.plain_book.specs.declared.replies.Reply.TheVariants.{Active, Pending, Refused as Refusal}
-use Rattle.plain_book.specs.declared.requests.Request.{Request}
-use Rattle.plain_book.specs.declared.requests.Stamp.{Stamp}
+use Rattle.book_words.specs.declared.calls.JournalCall.{JournalCall}
+use Rattle.book_words.specs.declared.replies.PendingItem.{PendingItem}
+use Rattle.book_words.specs.declared.replies.Reply.{Reply}
+use Rattle.book_words.specs.declared.replies.Reply.TheVariants.{Activated, Scheduled, Deleted}
+use Rattle.book_words.specs.declared.replies.Reply.TheVariants.{Active, Pending, Refused as Refusal}
+use Rattle.book_words.specs.declared.requests.Request.{Request}
+use Rattle.book_words.specs.declared.requests.Stamp.{Stamp}
 use Rattle.channel_json.specs.Activations.{accepted_text, item_text, pending_text, active_text}
 use Rattle.channel_json.specs.Errors.{error_text}
 use Rattle.channel_json.specs.Resources.{resource_text}
@@ -84,7 +84,7 @@ said_by device (Refuse wrong) reply = said_wrong wrong
 said_by device (Show resource) reply = said 200 Nothing (resource_text device resource)
 said_by device (Ask request part) reply = said_asked device request part reply
 
--- the bytes of what is said, and whether the connection ends behind it
+-- the bytes of what is said, and whether the connection ends after it
 abbrev pub text_said : Bool → Said → List ℕ
 text_said closes s = response_text s.status s.extra closes s.body
 
@@ -92,11 +92,11 @@ text_said closes s = response_text s.status s.extra closes s.body
 abbrev pub response_of : DeviceParts → HttpRequest → Option Reply → List ℕ
 response_of device http reply = text_said http.closes (said_by device (plan_of device http) reply)
 
--- the response to a stream of requests that is refused, behind which the connection ends
+-- the response to a stream of requests that is refused, after which the connection ends
 abbrev pub stream_response : ℕ → List ℕ
 stream_response status = text_said true (said_wrong (Stream status))
 
--- the response where memory ran out, behind which the connection ends
+-- the response where memory ran out, after which the connection ends
 abbrev pub no_memory_text : List ℕ
 no_memory_text = text_said true (said_wrong NoMemory)
 
@@ -108,7 +108,7 @@ pub record IsReplied (s : SetupParts) (client : ℕ) (old new : List JournalCall
   pub reply : Reply
   pub asked : IsAsked s old new client request reply stamp
 
--- and so much more was written as the reply says
+-- and as much more was written as the reply says
 pub record IsWritten (s : SetupParts) (client : ℕ) (old new : List JournalCall) (request : Request)
     (stamp : Stamp) (text : Reply → List ℕ)
     (before after : List ℕ) : Type 0 where
@@ -116,7 +116,7 @@ pub record IsWritten (s : SetupParts) (client : ℕ) (old new : List JournalCall
   pub asked : IsAsked s old new client request reply stamp
   pub written : after ≡ before ++ text reply
 
--- Served without the book: it isn't to be asked, its journal is as it was, and the response is
+-- Served without the book: it is not to be asked, its journal is as it was, and the response is
 -- fixed. Or served by it: it was asked with the request that is to be asked, and the response is
 -- that to its reply.
 abbrev pub IsServed : DeviceParts → HttpRequest → SetupParts → ℕ → List JournalCall
@@ -129,7 +129,8 @@ IsServed device http s client old new before after (At stamp) =
     × IsWritten s client old new request stamp
     (λ reply. response_of device http (Some reply)) before after
 
--- Not served for want of memory: the journal is as it was; or the book had answered at this place.
+-- Not served, since memory ran out: the journal is as it was; or the book had answered at this
+-- place.
 abbrev pub IsUnserved : DeviceParts → HttpRequest → SetupParts → ℕ → List JournalCall
     → List JournalCall → Option Stamp → Type 0
 IsUnserved device http s client old new None = new ≡ old
@@ -143,7 +144,7 @@ abbrev pub IsUnwritten : SetupParts → ℕ → List JournalCall → List Journa
 IsUnwritten s client old new request None = new ≡ old
 IsUnwritten s client old new request (Some stamp) = IsReplied s client old new request stamp
 
--- what holds where the book wasn't asked
+-- what holds where the book was not asked
 abbrev pub OnStill : Answered → Type 0 → Type 0
 OnStill Still P = P
 OnStill (At stamp) P = Unit {0}

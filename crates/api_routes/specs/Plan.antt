@@ -9,9 +9,9 @@ use Rattle.http_wire.specs.declared.request.Method.TheVariants.{Get, Post, Delet
 use Rattle.http_wire.specs.declared.request.Method.TheVariants.{Options}
 use Rattle.http_wire.specs.declared.response.Extra.{Extra}
 use Rattle.http_wire.specs.declared.response.Extra.TheVariants.{AllowGet, AllowPost, AllowDelete}
-use Rattle.plain_book.specs.declared.requests.Request.{Request}
-use Rattle.plain_book.specs.declared.requests.Request.TheVariants.{Delete, Active as AskActive}
-use Rattle.plain_book.specs.declared.requests.Request.TheVariants.{Pending as AskPending}
+use Rattle.book_words.specs.declared.requests.Request.{Request}
+use Rattle.book_words.specs.declared.requests.Request.TheVariants.{Delete, Active as AskActive}
+use Rattle.book_words.specs.declared.requests.Request.TheVariants.{Pending as AskPending}
 use Rattle.channel_json.specs.declared.faults.BodyFault.{BodyFault}
 use Rattle.channel_json.specs.Requests.{request_by}
 use Rattle.channel_json.specs.Resources.{IsThere}
@@ -60,7 +60,7 @@ plan_at device (OnePending id) method body = Ask AskPending (Item id)
 plan_at device (Rows None) method body = Ask AskActive Whole
 plan_at device (Rows (Some output)) method body = Ask AskActive (Row output)
 
--- where what the path names isn't there
+-- where what the path names is not there
 abbrev pub plan_target : DeviceParts → Option Target → Method → List ℕ → Plan
 plan_target device None method body = Refuse NoResource
 plan_target device (Some target) method body = plan_at device target method body
@@ -93,7 +93,7 @@ abbrev pub asked_by : Plan → Option Request
 asked_by (Ask request part) = Some request
 asked_by plan = None
 
--- the request with which the book is asked, or none where it isn't
+-- the request with which the book is asked, or none where it is not
 abbrev pub request_asked : DeviceParts → HttpRequest → Option Request
 request_asked device http = asked_by (plan_of device http)
 

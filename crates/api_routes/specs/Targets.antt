@@ -41,33 +41,33 @@ route_of path = if is_utf8 path then hit resources path else None
 abbrev pub is_slash : ℕ → Bool
 is_slash b = b == 47
 
--- what stands behind a beginning of the path, up to the next slash
+-- what follows a beginning of the path, up to the next slash
 abbrev pub part_behind : List ℕ → List ℕ → List ℕ
 part_behind front path = before_first is_slash (drop (length front) path)
 
 -- ---- what a path names
 
--- the input whose id stands behind `/inputs/`
+-- the input whose id follows `/inputs/`
 abbrev pub named_input : DeviceParts → List ℕ → Option ℕ
 named_input device path = input_number device (part_behind (under (codes "/inputs/")) path)
 
--- the output whose id stands behind `/outputs/`
+-- the output whose id follows `/outputs/`
 abbrev pub named_output : DeviceParts → List ℕ → Option ℕ
 named_output device path = output_number device (part_behind (under (codes "/outputs/")) path)
 
--- the output whose id stands behind `/map/active/`
+-- the output whose id follows `/map/active/`
 abbrev pub named_row : DeviceParts → List ℕ → Option ℕ
 named_row device path = output_number device (part_behind (under (codes "/map/active/")) path)
 
--- a number that isn't 0
+-- a number that is not 0
 abbrev pub unless_zero : ℕ → Option ℕ
 unless_zero n = if n == 0 then None else Some n
 
--- an activation's id: one to twenty digits of which the first isn't 0, below 2^64
+-- an activation's id: one to twenty digits of which the first is not 0, below 2^64
 abbrev pub id_in : List ℕ → Option ℕ
 id_in text = option_and_then unless_zero (number_in (2 ^ 64 - 1) text)
 
--- the activation whose id stands behind `/map/activations/`
+-- the activation whose id follows `/map/activations/`
 abbrev pub named_activation : List ℕ → Option ℕ
 named_activation path = id_in (part_behind (under (codes "/map/activations/")) path)
 
@@ -87,7 +87,7 @@ output_resource output.SourceId number = fixed.SourceId number
 output_resource output.Channels number = fixed.OutputChannels number
 output_resource output.Caps number = fixed.OutputCaps number
 
--- what a resource's path leads to, or none where what it names isn't there
+-- what a resource's path leads to, or none where what it names is not there
 abbrev pub target_of : DeviceParts → Route → List ℕ → Option Target
 target_of device Slash path = Some (Fixed fixed.Slash)
 target_of device Nmos path = Some (Fixed fixed.Nmos)

@@ -7,10 +7,10 @@ use Rattle.map_entry.specs.declared.fault.RowFault.{RowFault}
 use Rattle.map_entry.specs.declared.fault.RowFault.TheVariants.{Input as NoInput}
 use Rattle.map_entry.specs.declared.fault.RowFault.TheVariants.{Channel as NoChannel, NotRoutable}
 use Rattle.map_entry.specs.declared.fault.RowFault.TheVariants.{Block, Order}
-use Rattle.plain_book.specs.declared.replies.Refusal.{Refusal}
-use Rattle.plain_book.specs.declared.replies.Refusal.TheVariants.{Empty, Unknown, BadChannel}
-use Rattle.plain_book.specs.declared.replies.Refusal.TheVariants.{Locked, Row, Time as NoTime}
-use Rattle.plain_book.specs.declared.replies.Refusal.TheVariants.{NotPending, Full}
+use Rattle.book_words.specs.declared.replies.Refusal.{Refusal}
+use Rattle.book_words.specs.declared.replies.Refusal.TheVariants.{Empty, Unknown, BadChannel}
+use Rattle.book_words.specs.declared.replies.Refusal.TheVariants.{Locked, Row, Time as NoTime}
+use Rattle.book_words.specs.declared.replies.Refusal.TheVariants.{NotPending, Full}
 use Rattle.channel_json.specs.declared.faults.Place.{Place}
 use Rattle.channel_json.specs.declared.faults.Place.TheVariants.{Top, Activation, Mode, Time}
 use Rattle.channel_json.specs.declared.faults.Place.TheVariants.{Action, Output, Cell}
@@ -43,7 +43,7 @@ status_of NoMemory = 503
 
 -- ---- texts
 
--- where a body isn't as it should be
+-- where a body is not as it should be
 abbrev pub place_text : Place → List ℕ
 place_text Top = codes "body shape: top"
 place_text Activation = codes "body shape: activation"

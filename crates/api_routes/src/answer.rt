@@ -8,7 +8,7 @@ ghost use Rattle.api_routes.specs.Answer.{only_of, text_said};
 ghost use Rattle.channel_json.specs.Activations.{accepted_text, active_text};
 ghost use Rattle.channel_json.specs.Resources.{IsThere, resource_text};
 ghost use Rattle.http_wire.specs.declared.response.Extra.TheVariants.{Nothing, Preflight};
-ghost use Rattle.plain_book.specs.Calls.{action_of, when_of};
+ghost use Rattle.book_words.specs.Calls.{action_of, when_of};
 
 use crate::plan::Part;
 use crate::wrong::Wrong;
@@ -192,7 +192,7 @@ pub(crate) fn said_reply(
     }
 }
 
-/// Appends the response with what is said. Want of memory leaves `out` as it was.
+/// Appends the response with what is said. If memory runs out, `out` stays as it was.
 pub(crate) fn write_said(said: &Said, closes: bool, out: &mut Vec<u8>) -> Result<(), NoMemory>
     requires { IsStatus said.now.status }
     ensures ok { OnOk result (out.new.items ≡ out.old.items ++ text_said closes said.now) }

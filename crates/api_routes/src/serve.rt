@@ -20,7 +20,7 @@ use thiserror::Error;
 /// Whether the book was asked, and then the place at which it answered.
 #[derive(Clone, Copy, Debug, PartialEq, Eq)]
 pub enum Answered {
-    /// It wasn't asked.
+    /// It was not asked.
     Still,
     At(Stamp),
 }
@@ -55,7 +55,8 @@ impl From<NoMemory> for ServeFault {
     }
 }
 
-/// The request with which [`serve_request`] asks the book, and `None` exactly where it doesn't ask.
+/// The request with which [`serve_request`] asks the book, and `None` exactly where it does not
+/// ask.
 pub fn asks(
     alloc: Global,
     routes: &Routes,
@@ -120,7 +121,7 @@ fn said_unasked(alloc: Global, device: &Device, plan: &Plan) -> Result<Said, NoM
     }
 }
 
-/// Appends the response to a request for which the book isn't asked.
+/// Appends the response to a request for which the book is not asked.
 fn answer(
     alloc: Global,
     device: &Device,
@@ -138,7 +139,7 @@ fn answer(
 }
 
 /// Serves a request, and appends the whole response to it. The book is asked at most once, for the
-/// client, with the request that [`asks`] tells. After want of memory `out` is as it was.
+/// client, with the request that [`asks`] tells. If memory runs out, `out` is as it was.
 pub fn serve_request<D: Desk>(
     alloc: Global,
     routes: &Routes,
@@ -184,7 +185,8 @@ pub fn serve_request<D: Desk>(
 }
 
 /// Appends the response to a stream of requests that is refused with one of the statuses of
-/// [`http_wire::Next::Bad`]. The connection ends behind it. Want of memory leaves `out` as it was.
+/// [`http_wire::Next::Bad`]. The connection ends after it. If memory runs out, `out` stays as it
+/// was.
 pub fn refuse_stream(alloc: Global, status: u16, out: &mut Vec<u8>) -> Result<(), NoMemory>
     requires { IsStatus status }
     ensures ok { OnOk result (out.new.items ≡ out.old.items ++ stream_response status) }
@@ -194,7 +196,7 @@ pub fn refuse_stream(alloc: Global, status: u16, out: &mut Vec<u8>) -> Result<()
     write_said(&said, true, out)
 }
 
-/// The response where memory ran out, which takes none. The connection ends behind it.
+/// The response where memory ran out, which takes none. The connection ends after it.
 pub fn no_memory_response() -> &'static str
     ensures { result.now ≡ no_memory_text }
 {

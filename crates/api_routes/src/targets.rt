@@ -49,7 +49,7 @@ pub(crate) fn route_of(routes: &Routes, path: &[u8]) -> Option<Route>
     }
 }
 
-/// The path behind so many bytes.
+/// The path after a given number of bytes.
 fn behind(len: usize, path: &[u8]) -> &[u8]
     ensures { result.now ≡ drop len path.now }
 {
@@ -72,7 +72,7 @@ fn before_slash(rest: &[u8]) -> &[u8]
     }
 }
 
-/// What stands behind a beginning of the path, up to the next slash.
+/// What follows a beginning of the path, up to the next slash.
 fn part_behind<'p>(front: &str, path: &'p [u8]) -> &'p [u8]
     ensures { result.now ≡ part_behind front.now path.now }
 {
@@ -188,7 +188,7 @@ fn output_target(device: &Device, part: OutputPart, path: &[u8]) -> Option<Targe
     Some(Target::Fixed(output_resource(part, number)))
 }
 
-/// What a resource's path leads to, and `None` where what it names isn't there.
+/// What a resource's path leads to, and `None` where what it names is not there.
 pub(crate) fn target_of(device: &Device, route: Route, path: &[u8]) -> Option<Target>
     ensures value { result ≡ target_of device.now route path.now }
     ensures there { IfSome result (IsTargetThere device.now) }

@@ -39,7 +39,7 @@ const VERSION: &str = "/x-nmos/channelmapping/v1.0/";
 
 const ACTIVATIONS: &str = "map/activations";
 
-/// A method, the path behind the version's, and a body; the status and its reason, further lines of
+/// A method, the path after the version's, and a body; the status and its reason, further lines of
 /// the head, and the body that is wanted.
 type Step = (
     Method,
@@ -603,7 +603,7 @@ fn check_first(
     check_served(rt, alloc, &setup, &mut desk, request, wanted)
 }
 
-/// Behind so many calls, before any claim.
+/// After a number of calls, before any claim.
 fn behind(calls: u64) -> Answered {
     Answered::At(Stamp { calls, claims: 0 })
 }
@@ -750,7 +750,7 @@ fn when_the_book_is_asked(rt: HostRuntime) -> Result<(), Fail> {
 const BOTH: &str = "{\"activation\":{\"mode\":\"activate_immediate\"},\
     \"action\":{\"x\":{},\"y\":{}}}";
 
-/// So many activations of both outputs, which are accepted.
+/// A given number of activations of both outputs, which are accepted.
 fn check_accepted(
     rt: &impl Abort,
     alloc: Global,

@@ -12,11 +12,11 @@ use plain_book::Refusal;
 /// What is wrong with a request.
 #[derive(Clone, Copy, Debug, PartialEq)]
 pub(crate) enum Wrong {
-    /// The path has no resource, or what it names isn't there.
+    /// The path has no resource, or what it names is not there.
     NoResource,
     /// The resource has no such method; it has these.
     NoMethod(Extra),
-    /// The body isn't as it should be.
+    /// The body is not as it should be.
     Body(BodyFault),
     /// No activation of this id is pending.
     NoActivation,

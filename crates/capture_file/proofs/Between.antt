@@ -1,5 +1,5 @@
 -- The parts of a result around its packets: a claim's record by its front, and a history's text as
--- the parts that are written one behind the other.
+-- the parts that are written one after the other.
 use Rattle.std.proofs.Common.{◌≡◌, ℕ, zero, suc, ◌+◌, ◌<◌, ◌≤◌, Bool, true, false, eqb, List, []}
 use Rattle.std.proofs.Common.{◌∷◌, ◌++◌, length, map, refl, sym, ap, ◌∙◌, append_assoc, zero-add}
 use Rattle.std.proofs.Common.{arith}
@@ -12,11 +12,11 @@ use Rattle.std.proofs.lemmas.List.FromFn.{map-range_with_len_more, length-map-ra
 use Rattle.std.proofs.lemmas.Grind.{flat_map-append}
 use Rattle.exact_text.specs.Forms.{number_text}
 use Rattle.io_caps.specs.declared.device.DeviceParts.{DeviceParts}
-use Rattle.plain_book.specs.declared.calls.JournalCall.{JournalCall}
-use Rattle.plain_book.specs.declared.history.ClaimItem.{ClaimItem}
-use Rattle.plain_book.specs.declared.history.History.{History}
-use Rattle.plain_book.specs.declared.history.ReplyItem.{ReplyItem}
-use Rattle.plain_book.specs.History.{history_of}
+use Rattle.book_words.specs.declared.calls.JournalCall.{JournalCall}
+use Rattle.book_words.specs.declared.history.ClaimItem.{ClaimItem}
+use Rattle.book_words.specs.declared.history.History.{History}
+use Rattle.book_words.specs.declared.history.ReplyItem.{ReplyItem}
+use Rattle.book_words.specs.History.{history_of}
 use Rattle.capture_file.specs.Tags.{claim_tag}
 use Rattle.capture_file.specs.Device.{flag}
 use Rattle.capture_file.specs.Items.{end_text}
@@ -103,7 +103,7 @@ claim_is claim_of is (suc n) a k le lt =
 
 -- ---- the whole text
 
--- the record of claim k, behind what stands between it and the claim before it
+-- the record of claim k, after what stands between it and the claim before it
 abbrev pub woven_bytes : (ℕ → ClaimItem) → List JournalCall → List ReplyItem → ℕ → List ℕ
 woven_bytes claim_of calls replies k = between_bytes k calls replies ++ claim_bytes (claim_of k)
 

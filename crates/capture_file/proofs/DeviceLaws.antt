@@ -61,7 +61,7 @@ unfolding member
 member_law = checked_law _ _ byte_law
     (λ n m fits e. member_is (eqb n unrouted_member) n m (λ t. eqb-true n unrouted_member t) e)
 
--- The list behind 255 is empty, so the parts of what was read are what was read.
+-- The list after 255 is empty, so the parts of what was read are what was read.
 routable_is : (t : Bool) (p : ℕ × List (Option ℕ)) (r : Routable)
     → (t ≡ true → (p.0 ≡ all_routable) × (p.1 ≡ [])) → (t ≡ false → length p.1 ≡ p.0)
     → cond t (given Anything) (given (Only p.1)) ≡ Some r → routable_parts r ≡ p

@@ -61,7 +61,7 @@ row_unfit d output fault rows (Some row) e passes broken =
     let ok = passes (slice_get_within rows output row e) in
     let none : Some fault ≡ None = sym broken ∙ ok in absurd cc
 
--- no rows that don't fit a device are in order
+-- no rows that do not fit a device are in order
 unfit_none : (setup : SetupParts) (fault : SetupFault) → IsBrokenBy setup fault → IsSetup setup → ⊥
 unfit_none setup Count broken is = broken is.count
 unfit_none setup (BaseRow output fault) broken is =

@@ -11,23 +11,23 @@ use Rattle.io_caps.specs.declared.device.DeviceParts.{DeviceParts}
 use Rattle.io_caps.specs.declared.port.Output.{Output}
 use Rattle.map_entry.specs.declared.cell.Cell.{Cell}
 use Rattle.io_caps.specs.declared.limits.TheConstants.{CLIENTS}
-use Rattle.plain_book.specs.declared.calls.JournalCall.{JournalCall}
-use Rattle.plain_book.specs.declared.requests.Stamp.{Stamp}
-use Rattle.plain_book.specs.History.{reply_item}
-use Rattle.plain_book.specs.declared.history.ReplyItem.{ReplyItem}
-use Rattle.plain_book.specs.declared.requests.When.TheVariants.{Now, At, After}
-use Rattle.plain_book.specs.declared.requests.Request.TheVariants.{Activate, Delete}
-use Rattle.plain_book.specs.declared.requests.Request.TheVariants.{Active as AskActive}
-use Rattle.plain_book.specs.declared.requests.Request.TheVariants.{Pending as AskPending}
-use Rattle.plain_book.specs.declared.replies.Refusal.TheVariants.{Empty, Unknown, BadChannel}
-use Rattle.plain_book.specs.declared.replies.Refusal.TheVariants.{Locked, Row, Time, NotPending}
-use Rattle.plain_book.specs.declared.replies.Refusal.TheVariants.{Full}
-use Rattle.plain_book.specs.declared.history.Said.{Said}
-use Rattle.plain_book.specs.declared.history.Said.TheVariants.{Plain, Http}
-use Rattle.plain_book.specs.declared.replies.PendingItem.{PendingItem}
-use Rattle.plain_book.specs.declared.replies.Reply.{Reply}
-use Rattle.plain_book.specs.declared.replies.Reply.TheVariants.{Activated, Scheduled, Deleted}
-use Rattle.plain_book.specs.declared.replies.Reply.TheVariants.{Active, Pending, Refused}
+use Rattle.book_words.specs.declared.calls.JournalCall.{JournalCall}
+use Rattle.book_words.specs.declared.requests.Stamp.{Stamp}
+use Rattle.book_words.specs.History.{reply_item}
+use Rattle.book_words.specs.declared.history.ReplyItem.{ReplyItem}
+use Rattle.book_words.specs.declared.requests.When.TheVariants.{Now, At, After}
+use Rattle.book_words.specs.declared.requests.Request.TheVariants.{Activate, Delete}
+use Rattle.book_words.specs.declared.requests.Request.TheVariants.{Active as AskActive}
+use Rattle.book_words.specs.declared.requests.Request.TheVariants.{Pending as AskPending}
+use Rattle.book_words.specs.declared.replies.Refusal.TheVariants.{Empty, Unknown, BadChannel}
+use Rattle.book_words.specs.declared.replies.Refusal.TheVariants.{Locked, Row, Time, NotPending}
+use Rattle.book_words.specs.declared.replies.Refusal.TheVariants.{Full}
+use Rattle.book_words.specs.declared.history.Said.{Said}
+use Rattle.book_words.specs.declared.history.Said.TheVariants.{Plain, Http}
+use Rattle.book_words.specs.declared.replies.PendingItem.{PendingItem}
+use Rattle.book_words.specs.declared.replies.Reply.{Reply}
+use Rattle.book_words.specs.declared.replies.Reply.TheVariants.{Activated, Scheduled, Deleted}
+use Rattle.book_words.specs.declared.replies.Reply.TheVariants.{Active, Pending, Refused}
 use Rattle.exact_text.specs.Forms.{number, number_text, counted, ◌▸◌}
 use Rattle.exact_text.proofs.FormLengths.{IsShort, length-number, shorter, byte_short, number_short}
 use Rattle.exact_text.proofs.FormLengths.{then_short, struct_short, checked_short, counted_short}

@@ -1,4 +1,4 @@
--- Each record of a capture behind its device is judged in one way.
+-- Each record of a capture after its device is judged in one way.
 use Rattle.std.proofs.Common.{◌≡◌, ℕ, ◌*◌, ◌<◌, List, [], ◌∷◌, ◌++◌, length, Result, Ok, Err, sym}
 use Rattle.std.proofs.Common.{ap, ◌∙◌, inl, inr}
 use Rattle.std.proofs.Math.Nat.{eq_of_mul-eq-mul_right}

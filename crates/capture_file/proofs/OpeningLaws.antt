@@ -82,7 +82,7 @@ pub no_magic : (bytes : List ℕ) → literal_at capture_magic bytes ≡ None �
 no_magic bytes none rest parts = let again : literal_at capture_magic bytes ≡ Some rest =
     ap (literal_at capture_magic) parts ∙ literal_again capture_magic rest in absurd cc
 
--- the bytes behind the magic are bytes
+-- the bytes after the magic are bytes
 pub rest_bytes : (bytes rest : List ℕ) → IsBytes bytes → literal_at capture_magic bytes ≡ Some rest
     → IsBytes rest
 rest_bytes bytes rest are e =
@@ -157,7 +157,7 @@ devices_same r s a b same h k =
     forms_same h.form k.form (sym h.tag ∙ ap (λ (x : ℕ × List ℕ). x.0) same ∙ k.tag) in
     bases_same h.form r.1 a b h.base (rw (form, same) k.base)
 
--- the record of a device stands behind the magic
+-- the record of a device follows the magic
 record_stands : (bytes : List ℕ) (setup : SetupParts) (behind rest : List ℕ)
     (h : Opens bytes setup behind) → bytes ≡ capture_magic ++ rest → Stands rest h.of behind
 record_stands bytes setup behind rest h parts =

@@ -8,12 +8,12 @@ use Rattle.map_entry.specs.declared.cell.Cell.{Cell}
 use Rattle.map_entry.specs.declared.fault.RowFault.{RowFault}
 use Rattle.map_entry.specs.declared.fault.RowFault.TheVariants.{Input, Channel, NotRoutable, Block}
 use Rattle.map_entry.specs.declared.fault.RowFault.TheVariants.{Order}
-use Rattle.plain_book.specs.declared.requests.When.TheVariants.{Now, At, After}
-use Rattle.plain_book.specs.declared.replies.Refusal.TheVariants.{Empty, Unknown, BadChannel}
-use Rattle.plain_book.specs.declared.replies.Refusal.TheVariants.{Locked, Row, Time, NotPending}
-use Rattle.plain_book.specs.declared.replies.Refusal.TheVariants.{Full}
-use Rattle.plain_book.specs.declared.replies.Reply.TheVariants.{Activated, Scheduled, Deleted}
-use Rattle.plain_book.specs.declared.replies.Reply.TheVariants.{Active, Pending, Refused}
+use Rattle.book_words.specs.declared.requests.When.TheVariants.{Now, At, After}
+use Rattle.book_words.specs.declared.replies.Refusal.TheVariants.{Empty, Unknown, BadChannel}
+use Rattle.book_words.specs.declared.replies.Refusal.TheVariants.{Locked, Row, Time, NotPending}
+use Rattle.book_words.specs.declared.replies.Refusal.TheVariants.{Full}
+use Rattle.book_words.specs.declared.replies.Reply.TheVariants.{Activated, Scheduled, Deleted}
+use Rattle.book_words.specs.declared.replies.Reply.TheVariants.{Active, Pending, Refused}
 use Rattle.exact_text.specs.Readings.{◌>>=◌, many_at}
 use Rattle.exact_text.proofs.Exact.{IsBytes, given, some_is, bind_some}
 use Rattle.exact_text.proofs.FieldLaws.{wide8}
@@ -119,7 +119,7 @@ pending_law = struct_law _ pending_made
 abbrev no_fault : Option RowFault
 no_fault = None
 
--- the fault of one check, or one by the checks behind it
+-- the fault of one check, or one by the checks after it
 fault_is : (t : Bool) (check n : ℕ) (x : RowFault) (others : Option RowFault) (f : RowFault)
     → fault_bytes x ≡ (check, n) → (b : ℕ × ℕ) → (t ≡ true → b.0 ≡ check) → b.1 ≡ n
     → (others ≡ Some f → fault_bytes f ≡ b) → cond t (Some x) others ≡ Some f → fault_bytes f ≡ b

@@ -6,9 +6,9 @@ use Rattle.exact_text.proofs.FieldLaws.{wide4, wide8}
 use Rattle.map_entry.specs.declared.cell.Cell.{Cell}
 use Rattle.map_entry.specs.declared.cell.Cell.TheVariants.{Unrouted, From}
 use Rattle.exact_text.specs.Forms.{tested}
-use Rattle.plain_book.specs.declared.requests.When.TheVariants.{Now, At, After}
-use Rattle.plain_book.specs.declared.requests.Request.TheVariants.{Activate, Delete, Active}
-use Rattle.plain_book.specs.declared.requests.Request.TheVariants.{Pending}
+use Rattle.book_words.specs.declared.requests.When.TheVariants.{Now, At, After}
+use Rattle.book_words.specs.declared.requests.Request.TheVariants.{Activate, Delete, Active}
+use Rattle.book_words.specs.declared.requests.Request.TheVariants.{Pending}
 use Rattle.capture_file.specs.Tags.{unrouted_input, now_op, at_op, after_op, delete_op, active_op}
 use Rattle.capture_file.specs.Tags.{pending_op}
 use Rattle.capture_file.specs.Requests.{cell_bytes, cell_of, cell, change, output_change, named}

@@ -147,7 +147,7 @@ none_left : {T : Type 0} (at : T → ℕ) (m : ℕ) (rest : List T) → IsRising
 none_left at m [] h k = refl
 none_left at m (r ∷ rest) h k = absurd (omega (arith, h.0, k.0))
 
--- each number's items, one number behind the other, are all from the first number on
+-- each number's items, one number after the other, are all from the first number on
 pub shown : {T : Type 0} (at : T → ℕ) (n m : ℕ) (all rest : List T) → IsFromOn at m all rest
     → AllByRecursion (λ x. at x < m + n) rest
     → flat_map (λ k. filter (λ r. eqb (at r) k) all) (range_with_len m n) ≡ rest

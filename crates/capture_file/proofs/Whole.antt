@@ -1,4 +1,4 @@
--- A walk over the records behind an opening comes to a capture exactly where its text stands, and
+-- A walk over the records after an opening comes to a capture exactly where its text stands, and
 -- to a fault exactly at the first.
 use Rattle.std.proofs.Common.{◌≡◌, ℕ, ◌+◌, ◌^◌, ◌<◌, Bool, true, false, cond, eqb, List, [], ◌∷◌}
 use Rattle.std.proofs.Common.{◌++◌, length, take, drop, map, Result, Ok, Err, refl, sym, ap, subst}
@@ -35,7 +35,7 @@ use Rattle.capture_file.proofs.Once.{judges_once}
 use Rattle.capture_file.proofs.OpeningLaws.{opens_once, opens_magic, opens_no_fault, no_device_once}
 use Rattle.capture_file.proofs.WalkLaws.{fault_once, end_once, end_no_fault}
 
--- ---- records behind the device are the texts of the items that they add
+-- ---- records after the device are the texts of the items that they add
 
 item_same : (setup : SetupParts) (tag : ℕ) (body : List ℕ) (x : Item) → IsRead setup tag body x
     → record_text tag body ≡ item.text x
@@ -177,7 +177,7 @@ last_is AnEnd b tag body c is h = (is refl, h)
 
 -- ---- what the walk comes to
 
--- an opening, and what stands behind it in other words
+-- an opening, and what follows it in other words
 opens_as : (bytes : List ℕ) (setup : SetupParts) (behind other : List ℕ) → behind ≡ other
     → Opens bytes setup behind → Opens bytes setup other
 opens_as bytes setup behind other same h = subst (λ (z : List ℕ). Opens bytes setup z) same h
@@ -243,7 +243,7 @@ end_captures bytes setup behind c at opens h =
       text = subst (λ (d : CaptureParts). IsCaptureText d (take at bytes)) (sym is) text;
     }
 
--- what a walk comes to, behind the opening
+-- what a walk comes to, after the opening
 record Comes (bytes : List ℕ) (setup : SetupParts) (There : List ℕ → Type 0) : Type 0 where
   pub behind : List ℕ
   pub opens : Opens bytes setup behind
@@ -312,7 +312,7 @@ stops_fault bytes at kind h = record {
 
 -- ---- one outcome
 
--- what a walk comes to behind one opening it comes to behind the other, which is the same
+-- what a walk comes to after one opening it comes to after the other, which is the same
 moved : (bytes : List ℕ) (a b : SetupParts) (u : List ℕ) (There : SetupParts → List ℕ → Type 0)
     → Opens bytes a u → (k : Comes bytes b (There b)) → There a u
 moved bytes a b u There opens k =

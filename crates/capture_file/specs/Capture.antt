@@ -26,7 +26,7 @@ pub record CaptureParts : Type 0 where
 abbrev pub capture_of : SetupParts → List Item → ℕ → CaptureParts
 capture_of setup items ticks = record { setup = setup; items = items; ticks = ticks }
 
--- so many ticks are those of the claims, with so many outputs
+-- a given number of ticks are those of the claims, with a given number of outputs
 abbrev pub AreTicks : ℕ → List Item → ℕ → Type 0
 AreTicks outputs items ticks = (sum_by claims_of items ≡ ticks * outputs) × (ticks ≤ CAPTURE_TICKS)
 
@@ -66,14 +66,14 @@ pub record IsDeviceRecord (setup : SetupParts) (r : ℕ × List ℕ) : Type 0 wh
   pub tag : r.0 ≡ form_tag form
   pub base : IsBase form r.1 setup
 
--- the bytes begin with the magic and a record of this device, behind which these stand
+-- the bytes begin with the magic and a record of this device, after which these stand
 pub record Opens (bytes : List ℕ) (setup : SetupParts) (behind : List ℕ) : Type 0 where
   pub of : ℕ × List ℕ
   pub device : IsDeviceRecord setup of
   pub parts : bytes ≡ capture_magic ++ (text_of of ++ behind)
 
--- records behind the device of so many inputs: they name what is there, and their numbers are in
--- the range of their fields
+-- records after the device of a given number of inputs: they name what is there, and their numbers
+-- are in the range of their fields
 pub record AreItems (inputs : ℕ) (items : List Item) : Type 0 where
   pub there : All (IsItemThere inputs) items
   pub fit : All item.Fits items

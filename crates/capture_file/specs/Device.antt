@@ -70,7 +70,7 @@ abbrev pub routable_parts : Routable → ℕ × List (Option ℕ)
 routable_parts Anything = (all_routable, [])
 routable_parts (Only members) = (length members, members)
 
--- how many members stand behind that number
+-- how many members follow that number
 abbrev pub members_after : ℕ → ℕ
 members_after n = if n == all_routable then 0 else n
 

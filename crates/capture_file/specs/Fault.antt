@@ -48,7 +48,7 @@ IsFirst (Ok form) body judged = IsOpened form body judged
 
 -- ---- the others
 
--- what a tag says behind the device: a second device is `Order`, a tag that isn't known `Tag`
+-- what a tag says after the device: a second device is `Order`, a tag that is not known `Tag`
 abbrev pub sort_of : ℕ → Sort
 sort_of tag =
     if tag == device_tag || tag == json_device_tag then AFault Order
@@ -57,12 +57,12 @@ sort_of tag =
     else (if tag == end_tag then AnEnd
     else AFault Tag))
 
--- what stands before a record behind the device: the device, and the records between
+-- what stands before a record after the device: the device, and the records between
 pub record BeforeParts : Type 0 where
   pub setup : SetupParts
   pub items : List Item
 
--- a device and the records behind it
+-- a device and the records after it
 abbrev pub before : SetupParts → List Item → BeforeParts
 before setup items = record { setup = setup; items = items }
 
@@ -104,7 +104,7 @@ IsLater (AFault kind) b tag body judged = judged ≡ Err kind
 IsLater AnItem b tag body judged = IsTaken b tag body judged
 IsLater AnEnd b tag body judged = IsEnded b body judged
 
--- what a record behind the device does to what stands before it, or its fault
+-- what a record after the device does to what stands before it, or its fault
 abbrev pub Judges : BeforeParts → ℕ → List ℕ → Result (Step BeforeParts CaptureParts) CaptureKind
     → Type 0
 Judges b tag body judged = IsLater (sort_of tag) b tag body judged
@@ -122,14 +122,14 @@ pub record OpensNothing (bytes : List ℕ) (kind : CaptureKind) : Type 0 where
   pub stands : Stands bytes of rest
   pub judged : IsFirst (device_form of.0) of.1 (Err kind)
 
--- the magic, and behind it no whole record, or one that opens nothing
+-- the magic, and after it no whole record, or one that opens nothing
 pub record HasNoDevice (bytes : List ℕ) (at : ℕ) (kind : CaptureKind) : Type 0 where
   pub behind : List ℕ
   pub parts : bytes ≡ capture_magic ++ behind
   pub place : at ≡ length capture_magic
   pub faulty : (IsCut behind × (kind ≡ Cut)) ⊎ OpensNothing behind kind
 
--- the magic, a record of a device, and good records; and behind these, at this place, no whole
+-- the magic, a record of a device, and good records; and after these, at this place, no whole
 -- record, or one with this fault
 pub record StopsAt (bytes : List ℕ) (at : ℕ) (kind : CaptureKind) : Type 0 where
   pub setup : SetupParts
@@ -140,8 +140,8 @@ pub record StopsAt (bytes : List ℕ) (at : ℕ) (kind : CaptureKind) : Type 0 w
   pub place : at + length behind ≡ length bytes
   pub faulty : IsFaulty Judges Cut (before setup items) behind kind
 
--- The first fault of bytes and its place: they do not begin with the magic; or what stands behind
--- it is no device record; or what stands behind that and good records is faulty.
+-- The first fault of bytes and its place: they do not begin with the magic; or what follows
+-- it is no device record; or what follows that and good records is faulty.
 abbrev pub FaultIs : List ℕ → ℕ → CaptureKind → Type 0
 FaultIs bytes at kind =
     (HasNoMagic bytes × ((at ≡ 0) × (kind ≡ Magic)))

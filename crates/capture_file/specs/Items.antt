@@ -1,7 +1,7 @@
--- How the records of a capture behind its device stand in bytes. (This project's own.)
+-- How the records of a capture after its device stand in bytes. (This project's own.)
 use Rattle.std.specs.Prelude.{ℕ, ◌<◌, List, [], Option, Some, None}
 use Rattle.io_caps.specs.declared.limits.TheConstants.{CLIENTS}
-use Rattle.plain_book.specs.declared.requests.Request.{Request}
+use Rattle.book_words.specs.declared.requests.Request.{Request}
 use Rattle.exact_text.specs.Forms.{Form, byte, number, all_left, ◌▸◌, variant, no_form, choose}
 use Rattle.exact_text.specs.Forms.{in_record}
 use Rattle.exact_text.specs.Spellings.{record_text}
@@ -46,7 +46,7 @@ item_body tag =
     choose tag ask_tag (variant (byte ▸ request) (λ p. Ask p.0 p.1) if_ask) (
     choose tag work_tag (variant (number 4) (λ n. Work n) if_work) no_form)))
 
--- a record behind the device
+-- a record after the device
 abbrev pub item : Form Item
 item = in_record item_tag item_body
 

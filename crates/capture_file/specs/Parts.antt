@@ -2,12 +2,12 @@
 use Rattle.std.specs.Prelude.{ℕ, ◌+◌, ◌<◌, ◌^◌, Bool, List, [], ◌∷◌, ◌++◌, length}
 use Rattle.byteorder.specs.Endian.{big_bytes}
 use Rattle.std.specs.List.{AllByRecursion, flat_map}
-use Rattle.plain_book.specs.declared.calls.JournalCall.{JournalCall}
-use Rattle.plain_book.specs.declared.history.ClaimItem.{ClaimItem}
-use Rattle.plain_book.specs.declared.history.ReplyItem.{ReplyItem}
-use Rattle.plain_book.specs.declared.history.Said.{Said}
-use Rattle.plain_book.specs.declared.history.Said.TheVariants.{Plain, Http}
-use Rattle.plain_book.specs.History.{history_of}
+use Rattle.book_words.specs.declared.calls.JournalCall.{JournalCall}
+use Rattle.book_words.specs.declared.history.ClaimItem.{ClaimItem}
+use Rattle.book_words.specs.declared.history.ReplyItem.{ReplyItem}
+use Rattle.book_words.specs.declared.history.Said.{Said}
+use Rattle.book_words.specs.declared.history.Said.TheVariants.{Plain, Http}
+use Rattle.book_words.specs.History.{history_of}
 use Rattle.capture_file.specs.declared.entries.ResultItem.TheVariants.{Claim, Call, Reply as AReply}
 use Rattle.exact_text.specs.Forms.{number_text}
 use Rattle.capture_file.specs.Device.{flag}
@@ -40,14 +40,14 @@ abbrev pub bytes_at : ℕ → List JournalCall → List ReplyItem → List Claim
 bytes_at number calls replies claims =
     between_bytes number calls replies ++ flat_map claim_bytes (claim_at number claims)
 
--- The front of a claim's record, which is all of it but the packet, of so many bytes: tag, length,
--- the claim's number, and a flag for each input.
+-- The front of a claim's record, which is all of it but the packet, of a given number of bytes:
+-- tag, length, the claim's number, and a flag for each input.
 abbrev pub claim_front : ℕ → List Bool → ℕ → List ℕ
 claim_front k found len =
     claim_tag ∷ (big_bytes 4 (length found + len + 8)
     ++ (number_text 8 k ++ flat_map flag.text found))
 
--- the bytes of what stands at so many numbers of claims, from one on
+-- the bytes of what stands at consecutive numbers of claims, from one on
 abbrev pub range_bytes : ℕ → ℕ → List JournalCall → List ReplyItem → List ClaimItem → List ℕ
 range_bytes from count calls replies claims =
     flat_map bytes_of (records_from (history_of claims calls replies) from count)

@@ -1,10 +1,10 @@
 -- The records of a history, in the order of a result. (This project's own.)
 use Rattle.std.specs.Prelude.{◌≡◌, ℕ, ◌+◌, ◌==◌, List, ◌++◌, length, map, Option, Some, None}
 use Rattle.std.specs.List.{filter, filter_map, flat_map, range_with_len}
-use Rattle.plain_book.specs.declared.calls.JournalCall.{JournalCall}
-use Rattle.plain_book.specs.declared.history.ClaimItem.{ClaimItem}
-use Rattle.plain_book.specs.declared.history.ReplyItem.{ReplyItem}
-use Rattle.plain_book.specs.declared.history.History.{History}
+use Rattle.book_words.specs.declared.calls.JournalCall.{JournalCall}
+use Rattle.book_words.specs.declared.history.ClaimItem.{ClaimItem}
+use Rattle.book_words.specs.declared.history.ReplyItem.{ReplyItem}
+use Rattle.book_words.specs.declared.history.History.{History}
 use Rattle.capture_file.specs.declared.entries.ResultItem.{ResultItem}
 use Rattle.capture_file.specs.declared.entries.ResultItem.TheVariants.{Claim, Call, Reply}
 
@@ -28,7 +28,7 @@ records_at h claims =
     ++ (map (λ r. Reply r) (replies_at claims h.replies)
     ++ map (λ c. Claim c) (claim_at claims h.claims))
 
--- the records from one number of claims on, at so many numbers
+-- the records at consecutive numbers of claims, from one on
 abbrev pub records_from : History → ℕ → ℕ → List ResultItem
 records_from h from count = flat_map (records_at h) (range_with_len from count)
 

@@ -8,19 +8,19 @@ use Rattle.map_entry.specs.declared.cell.Cell.{Cell}
 use Rattle.map_entry.specs.declared.fault.RowFault.{RowFault}
 use Rattle.map_entry.specs.declared.fault.RowFault.TheVariants.{Input, Channel, NotRoutable, Block}
 use Rattle.map_entry.specs.declared.fault.RowFault.TheVariants.{Order}
-use Rattle.plain_book.specs.declared.requests.When.{When}
-use Rattle.plain_book.specs.declared.requests.When.TheVariants.{Now, At, After}
-use Rattle.plain_book.specs.declared.replies.Activation.{Activation}
-use Rattle.plain_book.specs.declared.replies.ActiveView.{ActiveView}
-use Rattle.plain_book.specs.declared.replies.PendingItem.{PendingItem}
-use Rattle.plain_book.specs.declared.replies.Refusal.{Refusal}
-use Rattle.plain_book.specs.declared.replies.Refusal.TheVariants.{Empty, Unknown, BadChannel}
-use Rattle.plain_book.specs.declared.replies.Refusal.TheVariants.{Locked, Row, Time, NotPending}
-use Rattle.plain_book.specs.declared.replies.Refusal.TheVariants.{Full}
-use Rattle.plain_book.specs.declared.replies.Reply.{Reply}
-use Rattle.plain_book.specs.declared.replies.Reply.TheVariants.{Activated, Scheduled, Deleted}
-use Rattle.plain_book.specs.declared.replies.Reply.TheVariants.{Active, Pending, Refused}
-use Rattle.plain_book.specs.Replies.{activation, active_view, pending_item}
+use Rattle.book_words.specs.declared.requests.When.{When}
+use Rattle.book_words.specs.declared.requests.When.TheVariants.{Now, At, After}
+use Rattle.book_words.specs.declared.replies.Activation.{Activation}
+use Rattle.book_words.specs.declared.replies.ActiveView.{ActiveView}
+use Rattle.book_words.specs.declared.replies.PendingItem.{PendingItem}
+use Rattle.book_words.specs.declared.replies.Refusal.{Refusal}
+use Rattle.book_words.specs.declared.replies.Refusal.TheVariants.{Empty, Unknown, BadChannel}
+use Rattle.book_words.specs.declared.replies.Refusal.TheVariants.{Locked, Row, Time, NotPending}
+use Rattle.book_words.specs.declared.replies.Refusal.TheVariants.{Full}
+use Rattle.book_words.specs.declared.replies.Reply.{Reply}
+use Rattle.book_words.specs.declared.replies.Reply.TheVariants.{Activated, Scheduled, Deleted}
+use Rattle.book_words.specs.declared.replies.Reply.TheVariants.{Active, Pending, Refused}
+use Rattle.book_words.specs.Replies.{activation, active_view, pending_item}
 use Rattle.exact_text.specs.Readings.{◌>>=◌, many_at}
 use Rattle.exact_text.specs.Forms.{Form, byte, number, many_of, ◌▸◌, struct, checked, variant}
 use Rattle.exact_text.specs.Forms.{constant, no_form, choose, tagged, counted}
@@ -39,7 +39,7 @@ when_op Now = now_op
 when_op (At t) = at_op
 when_op (After t) = after_op
 
--- what stands behind the op byte: the time at which
+-- what follows the op byte: the time at which
 abbrev pub if_at_time : When → Option TaiTime
 if_at_time (At t) = Some t
 if_at_time other = None
@@ -80,7 +80,7 @@ unfoldable pub last : Form (Option Activation)
 last = tagged last_tag
     (λ t. choose t 0 (constant None) (choose t 1 (variant shown (λ a. Some a) if_last) no_form))
 
--- rows of so many cells each
+-- rows of a given number of cells each
 abbrev pub rows_at : List ℕ → List ℕ → Option (List (List Cell) × List ℕ)
 rows_at [] bytes = Some ([], bytes)
 rows_at (width ∷ widths) bytes = do
@@ -88,11 +88,11 @@ rows_at (width ∷ widths) bytes = do
   others ← rows_at widths row.1
   Some (row.0 ∷ others.0, others.1)
 
--- a row fits a width: it has so many cells, each of which fits two bytes
+-- a row fits a width: it has a given number of cells, each of which fits two bytes
 abbrev pub FitsWidth : ℕ → List Cell → Type 0
 FitsWidth width row = (many_of width cell).Fits row
 
--- the rows of outputs with so many channels each, one behind the other
+-- the rows of outputs with a given number of channels each, one after the other
 unfoldable pub rows : List ℕ → Form (List (List Cell))
 rows widths = record {
   text = λ rows. flat_map (flat_map cell.text) rows;
@@ -161,52 +161,52 @@ code_of (Active v) = active_code
 code_of (Pending items) = pending_code
 code_of (Refused r) = refusal_code r
 
--- what stands behind the code of an accepted activation at once
+-- what follows the code of an accepted activation at once
 abbrev pub if_activated : Reply → Option (ℕ × ℕ)
 if_activated (Activated id tick) = Some (id, tick)
 if_activated other = None
 
--- what stands behind that of an accepted scheduled activation
+-- what follows that of an accepted scheduled activation
 abbrev pub if_scheduled : Reply → Option (ℕ × ℕ)
 if_scheduled (Scheduled id tick) = Some (id, tick)
 if_scheduled other = None
 
--- what stands behind that of a deletion
+-- what follows that of a deletion
 abbrev pub if_deleted : Reply → Option ℕ
 if_deleted (Deleted id) = Some id
 if_deleted other = None
 
--- what stands behind that of the active map
+-- what follows that of the active map
 abbrev pub if_active : Reply → Option ActiveView
 if_active (Active v) = Some v
 if_active other = None
 
--- what stands behind that of the pending activations
+-- what follows that of the pending activations
 abbrev pub if_pending : Reply → Option (List PendingItem)
 if_pending (Pending items) = Some items
 if_pending other = None
 
--- what stands behind that of an output that isn't there
+-- what follows that of an output that is not there
 abbrev pub if_unknown : Reply → Option ℕ
 if_unknown (Refused (Unknown output)) = Some output
 if_unknown other = None
 
--- what stands behind that of a channel that isn't there
+-- what follows that of a channel that is not there
 abbrev pub if_bad_channel : Reply → Option (ℕ × ℕ)
 if_bad_channel (Refused (BadChannel output channel)) = Some (output, channel)
 if_bad_channel other = None
 
--- what stands behind that of a locked output
+-- what follows that of a locked output
 abbrev pub if_locked : Reply → Option ℕ
 if_locked (Refused (Locked output)) = Some output
 if_locked other = None
 
--- what stands behind that of a row that fails the check
+-- what follows that of a row that fails the check
 abbrev pub if_row : Reply → Option (ℕ × RowFault)
 if_row (Refused (Row output fault)) = Some (output, fault)
 if_row other = None
 
--- what stands behind that of an id that isn't pending
+-- what follows that of an id that is not pending
 abbrev pub if_not_pending : Reply → Option ℕ
 if_not_pending (Refused (NotPending id)) = Some id
 if_not_pending other = None
@@ -225,8 +225,8 @@ refusal code =
     (
     choose code full_code (constant (Refused Full)) no_form)))))))
 
--- A code, and then: id and tick; an id; the active map, with so many channels of each output; the
--- number of pending activations and these; what a refusal names.
+-- A code, and then: id and tick; an id; the active map, with a given number of channels of each
+-- output; the number of pending activations and these; what a refusal names.
 unfoldable pub reply : List ℕ → Form Reply
 reply widths = tagged code_of (λ code.
     choose code activated_code (variant (number 8 ▸ number 8) (λ p. Activated p.0 p.1) if_activated)

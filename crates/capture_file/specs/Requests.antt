@@ -7,10 +7,10 @@ use Rattle.map_entry.specs.Action.{OutputChangeParts, output_change as changes_o
 use Rattle.map_entry.specs.declared.change.Change.{Change}
 use Rattle.map_entry.specs.declared.cell.Cell.{Cell}
 use Rattle.map_entry.specs.declared.cell.Cell.TheVariants.{Unrouted, From}
-use Rattle.plain_book.specs.declared.requests.When.TheVariants.{Now, At, After}
-use Rattle.plain_book.specs.declared.requests.Request.{Request}
-use Rattle.plain_book.specs.declared.requests.Request.TheVariants.{Activate, Delete, Active}
-use Rattle.plain_book.specs.declared.requests.Request.TheVariants.{Pending}
+use Rattle.book_words.specs.declared.requests.When.TheVariants.{Now, At, After}
+use Rattle.book_words.specs.declared.requests.Request.{Request}
+use Rattle.book_words.specs.declared.requests.Request.TheVariants.{Activate, Delete, Active}
+use Rattle.book_words.specs.declared.requests.Request.TheVariants.{Pending}
 use Rattle.exact_text.specs.Forms.{Form, byte, number, ◌▸◌, struct, checked, passing, tested}
 use Rattle.exact_text.specs.Forms.{variant, constant, no_form, choose, tagged, counted}
 use Rattle.capture_file.specs.Tags.{unrouted_input, now_op, at_op, after_op, delete_op, active_op}
@@ -93,22 +93,22 @@ op_of (Delete id) = delete_op
 op_of Active = active_op
 op_of Pending = pending_op
 
--- what stands behind the op byte of an activation at once
+-- what follows the op byte of an activation at once
 abbrev pub if_now : Request → Option (List OutputChangeParts)
 if_now (Activate Now a) = Some a
 if_now other = None
 
--- what stands behind that of an activation at a time
+-- what follows that of an activation at a time
 abbrev pub if_at : Request → Option (TaiTime × List OutputChangeParts)
 if_at (Activate (At t) a) = Some (t, a)
 if_at other = None
 
--- what stands behind that of an activation after a time
+-- what follows that of an activation after a time
 abbrev pub if_after : Request → Option (TaiTime × List OutputChangeParts)
 if_after (Activate (After t) a) = Some (t, a)
 if_after other = None
 
--- what stands behind that of a deletion
+-- what follows that of a deletion
 abbrev pub if_delete : Request → Option ℕ
 if_delete (Delete id) = Some id
 if_delete other = None

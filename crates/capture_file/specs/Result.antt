@@ -5,16 +5,16 @@ use Rattle.std.specs.List.{flat_map}
 use Rattle.io_caps.specs.Device.{IsDevice}
 use Rattle.io_caps.specs.declared.device.DeviceParts.{DeviceParts}
 use Rattle.io_caps.specs.declared.limits.TheConstants.{CLIENTS}
-use Rattle.plain_book.specs.declared.calls.JournalCall.{JournalCall}
-use Rattle.plain_book.specs.declared.history.ClaimItem.{ClaimItem}
-use Rattle.plain_book.specs.declared.history.ReplyItem.{ReplyItem}
-use Rattle.plain_book.specs.declared.history.Said.{Said}
-use Rattle.plain_book.specs.declared.history.Said.TheVariants.{Plain, Http}
-use Rattle.plain_book.specs.declared.history.History.{History}
-use Rattle.plain_book.specs.declared.replies.Reply.{Reply}
-use Rattle.plain_book.specs.declared.requests.Request.{Request}
-use Rattle.plain_book.specs.Calls.{journal_call}
-use Rattle.plain_book.specs.History.{stamp, claim_item, reply_item, IsWhole}
+use Rattle.book_words.specs.declared.calls.JournalCall.{JournalCall}
+use Rattle.book_words.specs.declared.history.ClaimItem.{ClaimItem}
+use Rattle.book_words.specs.declared.history.ReplyItem.{ReplyItem}
+use Rattle.book_words.specs.declared.history.Said.{Said}
+use Rattle.book_words.specs.declared.history.Said.TheVariants.{Plain, Http}
+use Rattle.book_words.specs.declared.history.History.{History}
+use Rattle.book_words.specs.declared.replies.Reply.{Reply}
+use Rattle.book_words.specs.declared.requests.Request.{Request}
+use Rattle.book_words.specs.Calls.{journal_call}
+use Rattle.book_words.specs.History.{stamp, claim_item, reply_item, IsWhole}
 use Rattle.exact_text.specs.Spellings.{record_text}
 use Rattle.exact_text.specs.Forms.{Form, byte, number, many_of, all_left, ◌▸◌, struct, variant}
 use Rattle.exact_text.specs.Forms.{no_form, choose, tagged, in_record}
@@ -66,8 +66,8 @@ abbrev pub if_http : Said → Option (List ℕ)
 if_http (Http bytes) = Some bytes
 if_http (Plain r) = None
 
--- the form, and what was said: a plain reply on a device with so many channels of each output, or
--- the bytes of an HTTP response
+-- the form, and what was said: a plain reply on a device with a given number of channels of each
+-- output, or the bytes of an HTTP response
 unfoldable pub said : List ℕ → Form Said
 said widths = tagged form_of (λ form.
     choose form plain_form (variant (plain_reply widths) (λ r. Plain r) if_plain) (

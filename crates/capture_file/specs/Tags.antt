@@ -125,7 +125,7 @@ pending_code = 4
 abbrev pub empty_code : ℕ
 empty_code = 16
 
--- refused: an output isn't there
+-- refused: an output is not there
 abbrev pub unknown_code : ℕ
 unknown_code = 17
 

@@ -1,4 +1,4 @@
--- Records one behind the other, up to a last one, each judged by what stands before it. (This
+-- Records one after the other, up to a last one, each judged by what stands before it. (This
 -- project's own.)
 use Rattle.std.specs.Prelude.{◌≡◌, ℕ, ◌+◌, ◌<◌, ◌^◌, List, [], ◌∷◌, ◌++◌, length, Result, Ok, Err}
 use Rattle.std.specs.Prelude.{◌⊎◌}
@@ -43,7 +43,7 @@ Leads judges s [] end = s ≡ end
 Leads {S = S} judges s (r ∷ others) end =
     IsRecord r × ((next : S) × (judges s r.0 r.1 (Ok (Next next)) × Leads judges next others end))
 
--- a front of the bytes, of whole records that are taken: what it leads to, and what stands behind
+-- a front of the bytes, of whole records that are taken: what it leads to, and what follows
 -- it
 pub record Front {S E F : Type 0} (judges : Judging S E F) (start : S) (bytes : List ℕ) (end : S)
     (behind : List ℕ) : Type 0 where
@@ -73,7 +73,7 @@ pub record HasFault {S E F : Type 0} (judges : Judging S E F) (s : S) (bytes : L
 abbrev pub IsFaulty : {S E F : Type 0} → Judging S E F → F → S → List ℕ → F → Type 0
 IsFaulty judges cut s bytes fault = (IsCut bytes × (fault ≡ cut)) ⊎ HasFault judges s bytes fault
 
--- The first fault of the last bytes of a whole: behind a front of good records, up to this place in
+-- The first fault of the last bytes of a whole: after a front of good records, up to this place in
 -- the whole, stands what is faulty in this way.
 pub record FaultAt {S E F : Type 0} (judges : Judging S E F) (cut : F) (start : S) (whole : ℕ)
     (bytes : List ℕ) (at : ℕ) (fault : F) : Type 0 where
@@ -83,7 +83,7 @@ pub record FaultAt {S E F : Type 0} (judges : Judging S E F) (cut : F) (start : 
   pub place : at + length behind ≡ whole
   pub faulty : IsFaulty judges cut before behind fault
 
--- The end: behind a front of good records stands the last one, up to this place in the whole.
+-- The end: after a front of good records stands the last one, up to this place in the whole.
 pub record EndsAt {S E F : Type 0} (judges : Judging S E F) (start : S) (whole : ℕ) (bytes : List ℕ)
     (end : E) (at : ℕ) : Type 0 where
   pub before : S

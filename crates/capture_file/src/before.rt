@@ -7,7 +7,7 @@ use crate::{CaptureKind, Items, tags};
 use map_entry::Setup;
 use std::marker::Model;
 
-/// What stands before a record: the device, and the records behind it, which name inputs and
+/// What stands before a record: the device, and the records after it, which name inputs and
 /// clients that are there.
 #[derive(Debug, Drop)]
 pub(crate) struct Before<'a> {
@@ -32,7 +32,7 @@ pub enum DeviceForm {
     Json,
 }
 
-/// What a tag says behind the device.
+/// What a tag says after the device.
 #[derive(Clone, Copy, Debug, PartialEq, Eq)]
 pub enum Sort {
     AnItem,
@@ -40,7 +40,7 @@ pub enum Sort {
     AFault(CaptureKind),
 }
 
-/// The form of a device that a tag says, or why it can't be the tag of the first record.
+/// The form of a device that a tag says, or why it cannot be the tag of the first record.
 pub(crate) fn device_form(tag: u8) -> Result<DeviceForm, CaptureKind>
     ensures { result ≡ device_form tag }
 {
@@ -52,7 +52,7 @@ pub(crate) fn device_form(tag: u8) -> Result<DeviceForm, CaptureKind>
     }
 }
 
-/// What a tag says behind the device.
+/// What a tag says after the device.
 pub(crate) fn sort_of(tag: u8) -> Sort
     ensures { result ≡ sort_of tag }
 {

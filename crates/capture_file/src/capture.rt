@@ -74,7 +74,7 @@ fn read_first<'a>(alloc: Global, bytes: &'a [u8]) -> Result<(Capture<'a>, usize)
     }
 }
 
-/// The capture at the front of bytes, which lend it their packets, and the place behind its last
+/// The capture at the front of bytes, which lend it their packets, and the place after its last
 /// record; or the first fault, with the place of its record. Each comes exactly where it stands
 /// there, unless memory runs out. (This project's own.)
 pub fn read_capture<'a>(

@@ -53,7 +53,7 @@ fn copied(alloc: Global, bytes: &[u8]) -> Result<Text, Misread>
     Ok(Text::from_vec(Vec::from_slice(alloc, bytes)?))
 }
 
-/// The labels of so many channels: "1", "2", ..
+/// The labels of a given number of channels: "1", "2", ..
 fn labels_of(alloc: Global, channels: u8) -> Result<Labels, Misread>
     ensures { Gives (λ x. x) result (Some (numbered channels)) }
 {

@@ -1,7 +1,7 @@
 //! The records of a result.
 
+use book_words::{ClaimItem, JournalCall, ReplyItem};
 use io_caps::{NoMemory, TryCopy};
-use plain_book::{ClaimItem, JournalCall, ReplyItem};
 
 /// A record of a result before the last one.
 #[derive(Debug, Drop)]

@@ -7,7 +7,7 @@ use thiserror::Error;
 /// `Device` or `Body`, `Work`.
 #[derive(Clone, Copy, Debug, PartialEq, Eq, Error)]
 pub enum CaptureKind {
-    /// They don't begin with the magic.
+    /// They do not begin with the magic.
     #[error("magic")]
     Magic,
     /// They end before a record or within it, and no last record came.
@@ -22,13 +22,13 @@ pub enum CaptureKind {
     /// The device's body has no reading, or the device or its base rows are out of order.
     #[error("device")]
     Device,
-    /// Another record's body has no reading, or names an input or a client that isn't there.
+    /// Another record's body has no reading, or names an input or a client that is not there.
     #[error("body")]
     Body,
     /// At the last record: the claims are not those of whole ticks, or of too many.
     #[error("work")]
     Work,
-    /// There are bytes behind the last record. [`read_capture`](crate::read_capture) never says so.
+    /// There are bytes after the last record. [`read_capture`](crate::read_capture) never says so.
     #[error("trailing")]
     Trailing,
 }

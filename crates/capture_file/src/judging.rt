@@ -1,4 +1,4 @@
-//! The records of a capture behind its device, each judged by what stands before it.
+//! The records of a capture after its device, each judged by what stands before it.
 
 ghost use Rattle.std.specs.Prelude.{◌≡◌, ◌<◌, ◌≤◌, ◌^◌, ◌↔◌, ℕ, IsTrue, IfSome, IfNone, length};
 ghost use Rattle.std.specs.List.{sum_by};

@@ -21,14 +21,14 @@ mod tests;
 mod walk;
 mod writing;
 
+pub use book_words::{
+    Activation, ActiveView, ClaimItem, ClaimItems, History, Journal, JournalCall, PendingItem,
+    PendingItems, Refusal, Reply, ReplyItem, ReplyItems, Request, Requests, Said, Stamp, When,
+};
 pub use capture::{Capture, read_capture};
 pub use entries::ResultItem;
 pub use fault::{CaptureFault, CaptureKind};
 pub use items::{Item, Items, RecordBytes};
 pub use parts::{CLAIM_HEAD_LEN, end_record, write_between, write_claim_front};
-pub use plain_book::{
-    Activation, ActiveView, ClaimItem, ClaimItems, History, Journal, JournalCall, PendingItem,
-    PendingItems, Refusal, Reply, ReplyItem, ReplyItems, Request, Requests, Said, Stamp, When,
-};
 pub use result::write_result;
 pub use tags::RESULT_MAGIC;

@@ -79,7 +79,7 @@ fn at_first(kind: CaptureKind) -> CaptureFault
     }
 }
 
-/// The setup of the magic and the first record, and the bytes behind them.
+/// The setup of the magic and the first record, and the bytes after them.
 pub(crate) fn read_opening(alloc: Global, bytes: &[u8]) -> Result<(Setup, &[u8]), Or<CaptureFault>>
     ensures opened { IfOk result (λ x. Opens bytes.now x.0 x.1.now) }
     ensures fault { IfErr result (λ e. IfFault e (λ f. FaultIs bytes.now f.at f.kind)) }

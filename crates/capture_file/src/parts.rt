@@ -20,9 +20,9 @@ pub const CLAIM_HEAD_LEN: usize = 13;
 
 const _: () = prove!(CLAIM_HEAD_LEN == 13);
 
-/// What stands between the claims of a result: the records of the calls and the replies at each of
-/// so many numbers of claims, from 0 on. What stands at further numbers is left out. It takes time
-/// in proportion to what is written and to the numbers.
+/// What stands between the claims of a result: the records of the calls and the replies at each
+/// number of claims from 0 on, up to a given one. What stands at further numbers is left out. It
+/// takes time in proportion to what is written and to the numbers.
 pub fn write_between(
     alloc: Global,
     calls: &[JournalCall],
@@ -67,8 +67,8 @@ fn write_claim_head(out: &mut [u8], body_len: u32, k: u64)
     BigEndian::write_u64(number, k);
 }
 
-/// Writes the front of a claim's record: all of it but the packet, which stands behind it and has
-/// so many bytes.
+/// Writes the front of a claim's record: all of it but the packet, which follows it and has
+/// a given number of bytes.
 pub fn write_claim_front(out: &mut [u8], k: u64, found: &[bool], packet_len: usize)
     requires room { length out.old ≡ CLAIM_HEAD_LEN + length found.now }
     requires short { length found.now + packet_len + 8 < 2 ^ 32 }

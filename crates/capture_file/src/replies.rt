@@ -3,7 +3,7 @@
 ghost use Rattle.std.specs.Prelude.{◌≡◌, ◌++◌, [], OnOk};
 ghost use Rattle.std.specs.List.{flat_map};
 ghost use Rattle.exact_text.specs.Spellings.{Grows};
-ghost use Rattle.plain_book.specs.declared.replies.Reply.TheVariants.{Refused};
+ghost use Rattle.book_words.specs.declared.replies.Reply.TheVariants.{Refused};
 ghost use Rattle.capture_file.specs.Requests.{cell};
 ghost use Rattle.capture_file.specs.Replies.{when, shown, last, view, pending, row_fault, reply};
 ghost use Rattle.capture_file.specs.Replies.{HoldsReply, HoldsPending};

@@ -235,8 +235,8 @@ pub(crate) fn push_range<'a>(
     Ok(left)
 }
 
-/// Writes a whole history of this device as a result behind what is there, in time linear in the
-/// history. Want of memory leaves what was there, and maybe more behind it.
+/// Writes a whole history of this device as a result after what is there, in time linear in the
+/// history. If memory runs out, what was there stays, and more may follow it.
 #[tactic(auto, using(exact_text::proofs::Growth::growth))]
 pub fn write_result(
     alloc: Global,

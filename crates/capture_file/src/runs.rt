@@ -5,7 +5,7 @@ ghost use Rattle.std.specs.Prelude.{◌≡◌, ◌+◌, ◌==◌, ℕ};
 ghost use Rattle.std.specs.List.{filter};
 ghost use Rattle.capture_file.specs.Runs.{IsFromOn, IsRisingFrom, run_len};
 
-use plain_book::{ClaimItem, JournalCall, ReplyItem};
+use book_words::{ClaimItem, JournalCall, ReplyItem};
 
 /// What stands at a number of claims; a claim stands at its own.
 pub(crate) trait Stands {
@@ -55,7 +55,7 @@ fn run_len<T: Stands>(rest: &[T], claims: u64) -> usize
     len
 }
 
-/// Those at this number of claims, which stand in front, and those behind them.
+/// Those at this number of claims, which stand in front, and those after them.
 #[tactic(auto, using(crate::proofs::RunLaws::runs))]
 pub(crate) fn split_run<T: Stands>(rest: &[T], claims: u64) -> (&[T], &[T])
     requires { IsRisingFrom T.at claims rest.now }

@@ -151,12 +151,12 @@ pub const EMPTY: u8 = 0x10;
 
 const _: () = prove!(EMPTY == 16);
 
-/// The code of the refusal of an output that isn't there.
+/// The code of the refusal of an output that is not there.
 pub const UNKNOWN: u8 = 0x11;
 
 const _: () = prove!(UNKNOWN == 17);
 
-/// The code of the refusal of a channel that isn't there.
+/// The code of the refusal of a channel that is not there.
 pub const BAD_CHANNEL: u8 = 0x12;
 
 const _: () = prove!(BAD_CHANNEL == 18);
@@ -176,7 +176,7 @@ pub const TIME: u8 = 0x15;
 
 const _: () = prove!(TIME == 21);
 
-/// The code of the refusal of an id that isn't pending.
+/// The code of the refusal of an id that is not pending.
 pub const NOT_PENDING: u8 = 0x16;
 
 const _: () = prove!(NOT_PENDING == 22);

@@ -3,8 +3,8 @@
 ghost use Rattle.std.specs.Prelude.{◌≡◌, [], ◌∷◌, IfOk, length};
 ghost use Rattle.io_caps.specs.Device.{IsDevice};
 ghost use Rattle.io_caps.specs.declared.device.DeviceParts.{DeviceParts};
-ghost use Rattle.plain_book.specs.History.{claim_item, reply_item};
-ghost use Rattle.plain_book.specs.declared.history.Said.TheVariants.{Http};
+ghost use Rattle.book_words.specs.History.{claim_item, reply_item};
+ghost use Rattle.book_words.specs.declared.history.Said.TheVariants.{Http};
 ghost use Rattle.capture_file.specs.Parts.{AreLeft};
 ghost use Rattle.capture_file.specs.Result.{FitsHistory};
 
@@ -78,7 +78,7 @@ fn fault_of(alloc: Global, bytes: &[u8]) -> Result<Option<CaptureFault>, Fail> {
     }
 }
 
-/// The first row that has another fault behind these digits, where places count from `from`.
+/// The first row that has another fault after these digits, where places count from `from`.
 fn wrong(alloc: Global, front: &str, from: u64, rows: Faults<'_>) -> Result<Option<usize>, Fail> {
     for (number, row) in rows.iter().enumerate() {
         let mut bytes = hex(alloc, front)?;
@@ -171,7 +171,7 @@ const DEVICES: [(&str, u64, CaptureKind); 9] = [
         0,
         Device,
     ),
-    // A base cell of an input that isn't there.
+    // A base cell of an input that is not there.
     (
         "44 0000001d 0000bb80 0002 0000000000000000 01 00 01 01 78 01 10 60 00000001 ff 0000",
         0,
@@ -201,7 +201,7 @@ const JSON_DEVICES: [(&str, bool); 17] = [
     ("}]", false),
     ("}]}x", false),
     ("}]}\0", false),
-    // No device: another type, a number past its range, an input that isn't there.
+    // No device: another type, a number past its range, an input that is not there.
     ("}],\"hold\":null}", false),
     (",\"map\":null}]}", false),
     (",\"ssrc\":4294967296}]}", false),
@@ -209,7 +209,7 @@ const JSON_DEVICES: [(&str, bool); 17] = [
     // A device past a limit: of a doubled key the last value counts.
     ("}],\"outputs\":[]}", false),
     (",\"id\":\"\"}]}", false),
-    // Base rows that don't fit: too many cells, and an unrouted cell where nothing is allowed.
+    // Base rows that do not fit: too many cells, and an unrouted cell where nothing is allowed.
     (",\"map\":[null,null]}]}", false),
     (",\"routable_inputs\":[]}]}", false),
 ];
@@ -258,9 +258,9 @@ const LATER: [(&str, u64, CaptureKind); 32] = [
     ("54 00000003 000002", 0, Body),
     ("54 00000005 0000000200", 0, Body),
     ("50 00000000", 0, Body),
-    // A packet of an input that isn't there.
+    // A packet of an input that is not there.
     ("50 00000002 01 80", 0, Body),
-    // A piece of no client, and of clients that are none; what stands behind one that is read.
+    // A piece of no client, and of clients that are none; what follows one that is read.
     ("51 00000000", 0, Body),
     ("51 00000001 10", 0, Body),
     ("51 00000004 ff 474554", 0, Body),
@@ -293,12 +293,12 @@ const REQUESTS: [(&str, u64, CaptureKind); 28] = [
     // A client that is none, and an op that is none.
     ("41 00000002 10 04", 0, Body),
     ("41 00000002 00 06", 0, Body),
-    // An action without its number of outputs, without an output, and with a byte behind it.
+    // An action without its number of outputs, without an output, and with a byte after it.
     ("41 00000002 00 00", 0, Body),
     ("41 00000003 00 00 01", 0, Body),
     ("41 00000004 00 00 00 00", 0, Body),
     ("41 00000007 00 00 01 00 01 0000", 0, Body),
-    // Outputs and channels that don't rise.
+    // Outputs and channels that do not rise.
     ("41 00000007 00 00 02 01 00 00 00", 0, Body),
     ("41 00000007 00 00 02 01 00 01 00", 0, Body),
     ("41 0000000b 00 00 01 00 02 000000 000001", 0, Body),
@@ -325,7 +325,7 @@ const REQUESTS: [(&str, u64, CaptureKind); 28] = [
     ("41 00000009 00 00 01 00 01 000000 45 00000000", 0, Body),
 ];
 
-/// Tries a table behind 0, 1 and 20 good records of 9 bytes.
+/// Tries a table after 0, 1 and 20 good records of 9 bytes.
 fn wrong_anywhere(alloc: Global, rows: Faults<'_>) -> Result<Option<usize>, Fail> {
     let mut front = String::new(alloc);
     front.push_str(FRONT)?;
@@ -462,7 +462,7 @@ fn captures_read(rt: HostRuntime) -> Result<(), Fail> {
     assert!(rt; read(rt.alloc(), "45 00000000")? == (0, 70));
     assert!(rt; read(rt.alloc(), MID_TICK)? == (3, 132));
     assert!(rt; read(rt.alloc(), "54 00000004 00000200 45 00000000")? == (256, 79));
-    // What stands behind the last record is not looked at.
+    // What follows the last record is not looked at.
     assert!(rt; read(rt.alloc(), "45 00000000 78")? == (0, 70));
     Ok(())
 }
@@ -617,7 +617,7 @@ fn response(alloc: Global, client: u8, stamp: Stamp, byte: u8) -> Result<ReplyIt
     Ok(ReplyItem::new(client, stamp, Said::Http(bytes)))
 }
 
-/// Three claims, and calls and replies in front of the first, between two, and behind the last.
+/// Three claims, and calls and replies in front of the first, between two, and after the last.
 fn three_claims(alloc: Global) -> Result<History, NoMemory>
     ensures { (d : DeviceParts) → IsDevice d → length d.inputs ≡ 1 → IfOk result (FitsHistory d) }
 {

@@ -1,4 +1,4 @@
-//! Records one behind the other, up to a last one, with the place of the first fault.
+//! Records one after the other, up to a last one, with the place of the first fault.
 
 ghost use Rattle.std.specs.Prelude.{◌≤◌, ℕ, List, Result, IfOk, IfErr, length};
 ghost use Rattle.capture_file.specs.declared.walk.Step.{Step};
@@ -34,7 +34,7 @@ pub trait Judge<'a, E, F>: Drop {
         ensures { IsJudged (judges self tag body.now) result };
 }
 
-/// What all records up to the last one come to, and the place behind it; or the first fault, with
+/// What all records up to the last one come to, and the place after it; or the first fault, with
 /// the place of its record. A record that is not whole has the fault `cut`. The bytes are the last
 /// ones of `whole` bytes, among which places count.
 pub fn walk<'a, S: Judge<'a, E, F>, E: Drop, F: Drop>(

@@ -16,9 +16,9 @@ use Rattle.tai_time.specs.Time.{IsTai, TaiTime, is_colon, nanos_part, secs_limit
 use Rattle.map_entry.specs.Action.{OutputChangeParts}
 use Rattle.map_entry.specs.declared.cell.Cell.{Cell}
 use Rattle.map_entry.specs.declared.cell.Cell.TheVariants.{Unrouted, From}
-use Rattle.plain_book.specs.declared.requests.Request.TheVariants.{Activate}
-use Rattle.plain_book.specs.declared.requests.When.{When}
-use Rattle.plain_book.specs.declared.requests.When.TheVariants.{Now, At, After}
+use Rattle.book_words.specs.declared.requests.Request.TheVariants.{Activate}
+use Rattle.book_words.specs.declared.requests.When.{When}
+use Rattle.book_words.specs.declared.requests.When.TheVariants.{Now, At, After}
 use Rattle.channel_json.specs.Fields.{at_most, is_null_at, object_at, text_at, whole_at, whole_in}
 use Rattle.channel_json.specs.Requests.{action_fault, action_in, activate_in, and_then, cell_in}
 use Rattle.channel_json.specs.Requests.{input_number, or_fault, request_by, request_in, routed_in}

@@ -22,11 +22,11 @@ use Rattle.tai_time.specs.Time.{time_of, nanos_limit}
 use Rattle.map_entry.specs.Action.{OutputChangeParts}
 use Rattle.map_entry.specs.declared.cell.Cell.{Cell}
 use Rattle.map_entry.specs.declared.cell.Cell.TheVariants.{Unrouted, From}
-use Rattle.plain_book.specs.declared.requests.When.{When}
-use Rattle.plain_book.specs.declared.requests.When.TheVariants.{Now, At, After}
-use Rattle.plain_book.specs.declared.replies.Activation.{Activation}
-use Rattle.plain_book.specs.declared.replies.ActiveView.{ActiveView}
-use Rattle.plain_book.specs.declared.replies.PendingItem.{PendingItem}
+use Rattle.book_words.specs.declared.requests.When.{When}
+use Rattle.book_words.specs.declared.requests.When.TheVariants.{Now, At, After}
+use Rattle.book_words.specs.declared.replies.Activation.{Activation}
+use Rattle.book_words.specs.declared.replies.ActiveView.{ActiveView}
+use Rattle.book_words.specs.declared.replies.PendingItem.{PendingItem}
 use Rattle.channel_json.specs.declared.resource.Resource.{Resource}
 use Rattle.channel_json.specs.declared.resource.Resource.TheVariants.{Slash, Nmos, Mapping, Version}
 use Rattle.channel_json.specs.declared.resource.Resource.TheVariants.{Inputs, Outputs}

@@ -9,11 +9,11 @@ use Rattle.io_caps.specs.declared.rate.Rate.{Rate}
 use Rattle.tai_time.specs.Tick.{tick_start}
 use Rattle.tai_time.specs.Time.{TaiTime, tai_text, time_of, nanos_limit}
 use Rattle.map_entry.specs.Action.{OutputChangeParts}
-use Rattle.plain_book.specs.declared.requests.When.{When}
-use Rattle.plain_book.specs.declared.requests.When.TheVariants.{Now, At, After}
-use Rattle.plain_book.specs.declared.replies.Activation.{Activation}
-use Rattle.plain_book.specs.declared.replies.ActiveView.{ActiveView}
-use Rattle.plain_book.specs.declared.replies.PendingItem.{PendingItem}
+use Rattle.book_words.specs.declared.requests.When.{When}
+use Rattle.book_words.specs.declared.requests.When.TheVariants.{Now, At, After}
+use Rattle.book_words.specs.declared.replies.Activation.{Activation}
+use Rattle.book_words.specs.declared.replies.ActiveView.{ActiveView}
+use Rattle.book_words.specs.declared.replies.PendingItem.{PendingItem}
 use Rattle.channel_json.specs.Values.{object_of}
 use Rattle.channel_json.specs.Cells.{action_data, map_data}
 

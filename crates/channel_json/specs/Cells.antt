@@ -12,11 +12,11 @@ use Rattle.map_entry.specs.declared.change.Change.{Change}
 use Rattle.map_entry.specs.Action.{OutputChangeParts}
 use Rattle.channel_json.specs.Values.{object_of}
 
--- the id of an input; of one that isn't there, the empty text
+-- the id of an input; of one that is not there, the empty text
 abbrev pub input_id : DeviceParts → ℕ → List ℕ
 input_id device input = option_map_or (λ i. i.id) (slice_get device.inputs input) []
 
--- the id of an output; of one that isn't there, the empty text
+-- the id of an output; of one that is not there, the empty text
 abbrev pub output_id : DeviceParts → ℕ → List ℕ
 output_id device output = option_map_or (λ o. o.id) (slice_get device.outputs output) []
 
@@ -57,7 +57,7 @@ output_member device change = (output_id device change.output, changes_data devi
 abbrev pub action_data : DeviceParts → List OutputChangeParts → Data
 action_data device action = object_of (map (output_member device) action)
 
--- the row of an output; of one that isn't there, the empty row
+-- the row of an output; of one that is not there, the empty row
 abbrev pub row_of : List (List Cell) → ℕ → List Cell
 row_of rows output = unwrap_or (slice_get rows output) []
 

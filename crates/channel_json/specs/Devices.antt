@@ -182,11 +182,11 @@ rate_in d = do
   frames ← whole_at (2 ^ 16 - 1) (codes "frames") d
   Some (record { hz = hz; frames = frames })
 
--- the first tick, 0 where it isn't told
+-- the first tick, 0 where it is not told
 abbrev pub base_at : Data → Option ℕ
 base_at d = if_there 0 (whole_in (2 ^ 64 - 1)) (get (codes "base") d)
 
--- for how many ticks an input waits for late packets, 0 where it isn't told
+-- for how many ticks an input waits for late packets, 0 where it is not told
 abbrev pub hold_at : Data → Option ℕ
 hold_at d = if_there 0 (whole_in 255) (get (codes "hold") d)
 
@@ -221,7 +221,7 @@ abbrev pub Says : List ℕ → SetupParts → Type 0
 Says text setup = (document text >>= setup_in) ≡ Some setup
 
 -- what a device and its base rows are built to: the first limit that the device breaks; or what of
--- the rows doesn't fit it; or both, as they are
+-- the rows does not fit it; or both, as they are
 abbrev pub BuildsSetup : SetupParts → Result SetupParts (Or DeviceJsonFault) → Type 0
 BuildsSetup said (Ok setup) = (said ≡ setup) × IsSetup said
 BuildsSetup said (Err NoMemory) = Unit {0}
@@ -231,9 +231,9 @@ BuildsSetup said (Err (Fault (Device fault))) = IsFirstFault said.device fault
 BuildsSetup said (Err (Fault (Rows fault))) = IsDevice said.device × IsBrokenBy said fault
 
 -- What a text is read as. It is no JSON value; or it is one that says no device; or the device that
--- it says breaks a limit, and this is the first; or it is within the limits, and its base rows
--- don't fit it; or the setup is what the text says, and is in order. Want of memory says nothing of
--- the text.
+-- it says breaks a limit, and this is the first; or it is within the limits, and its base rows do
+-- not fit it; or the setup is what the text says, and is in order. Running out of memory says
+-- nothing of the text.
 abbrev pub ReadsDevice : List ℕ → Result SetupParts (Or DeviceJsonFault) → Type 0
 ReadsDevice text (Ok setup) = Says text setup × IsSetup setup
 ReadsDevice text (Err NoMemory) = Unit {0}

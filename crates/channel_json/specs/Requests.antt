@@ -19,10 +19,10 @@ use Rattle.map_entry.specs.declared.cell.Cell.{Cell}
 use Rattle.map_entry.specs.declared.cell.Cell.TheVariants.{Unrouted, From}
 use Rattle.map_entry.specs.declared.change.Change.{Change}
 use Rattle.map_entry.specs.Action.{OutputChangeParts, output_change}
-use Rattle.plain_book.specs.declared.requests.When.{When}
-use Rattle.plain_book.specs.declared.requests.When.TheVariants.{Now, At, After}
-use Rattle.plain_book.specs.declared.requests.Request.{Request}
-use Rattle.plain_book.specs.declared.requests.Request.TheVariants.{Activate}
+use Rattle.book_words.specs.declared.requests.When.{When}
+use Rattle.book_words.specs.declared.requests.When.TheVariants.{Now, At, After}
+use Rattle.book_words.specs.declared.requests.Request.{Request}
+use Rattle.book_words.specs.declared.requests.Request.TheVariants.{Activate}
 use Rattle.channel_json.specs.declared.faults.Place.TheVariants.{Top, Activation, Mode, Time}
 use Rattle.channel_json.specs.declared.faults.Place.TheVariants.{Action, Output, Cell as CellPlace}
 use Rattle.channel_json.specs.declared.faults.BodyFault.{BodyFault}
@@ -55,7 +55,7 @@ abbrev pub unless_fault : {A : Type 0} → Option BodyFault → A → Result A B
 unless_fault None a = Ok a
 unless_fault (Some fault) a = Err fault
 
--- what is answered is the outcome that is meant, or want of memory
+-- what is answered is the outcome that is meant, or that memory ran out
 abbrev pub Answers : {A F : Type 0} → Result A F → Result A (Or F) → Type 0
 Answers meant (Ok a) = meant ≡ Ok a
 Answers meant (Err (Fault fault)) = meant ≡ Err fault
@@ -63,7 +63,8 @@ Answers meant (Err NoMemory) = Unit {0}
 
 -- ---- numbers in texts
 
--- the number whose decimal text this is, without leading zeros, where it isn't above a greatest one
+-- the number whose decimal text this is, without leading zeros, where it is not above a greatest
+-- one
 abbrev pub number_in : ℕ → List ℕ → Option ℕ
 number_in most text =
     if bytes_eq text (decimal (digits_value 10 text)) then at_most most (digits_value 10 text)
@@ -108,7 +109,7 @@ scheduling_at d = option_and_then scheduling_in (text_at (codes "mode") d)
 abbrev pub time_at : Data → Option TaiTime
 time_at d = option_and_then time_in (text_at (codes "requested_time") d)
 
--- when an activation is to count; for an immediate one the time that is asked for isn't looked at
+-- when an activation is to count; for an immediate one the time that is asked for is not looked at
 abbrev pub when_at : Scheduling → Data → Option When
 when_at Immediate d = Some Now
 when_at Absolute d = option_map At (time_at d)

@@ -39,7 +39,7 @@ properties_data name description =
 abbrev pub fed_data : Data → Data → Data
 fed_data id type = object (member (codes "id") id (member (codes "type") type no_members))
 
--- what an input is fed from: nulls where that isn't known
+-- what an input is fed from: nulls where that is not known
 abbrev pub parent_data : Parent → Data
 parent_data Nobody = fed_data null null
 parent_data (Source id) = fed_data (string (uuid_text id)) (string (codes "source"))
@@ -109,7 +109,7 @@ io_data device =
 
 -- ---- resources
 
--- the name of a resource below one, with a slash behind
+-- the name of a resource below one, followed by a slash
 abbrev pub name_data : List ℕ → Data
 name_data name = string (name ++ codes "/")
 
@@ -117,11 +117,11 @@ name_data name = string (name ++ codes "/")
 abbrev pub names_data : List (List ℕ) → Data
 names_data names = array_of (map name_data names)
 
--- a part of an input: null where that isn't there
+-- a part of an input: null where that is not there
 abbrev pub of_input : (Input → Data) → DeviceParts → ℕ → Data
 of_input part device input = option_map_or part (slice_get device.inputs input) null
 
--- a part of an output: null where that isn't there
+-- a part of an output: null where that is not there
 abbrev pub of_output : (Output → Data) → DeviceParts → ℕ → Data
 of_output part device output = option_map_or part (slice_get device.outputs output) null
 

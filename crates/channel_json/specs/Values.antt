@@ -11,7 +11,7 @@ use Rattle.serde_json.specs.View.{items_of}
 abbrev pub document : List ℕ → Option Data
 document text = if is_utf8 text then read text else None
 
--- a text as it is written: the empty text where it isn't UTF-8
+-- a text as it is written: the empty text where it is not UTF-8
 abbrev pub shown_text : List ℕ → List ℕ
 shown_text text = if is_utf8 text then text else []
 

@@ -12,10 +12,10 @@ ghost use Rattle.channel_json.specs.Activations.{item_text, pending_text, active
 
 use crate::cells::{action_value, map_value};
 use crate::values::{append, shown};
+use book_words::{Activation, ActiveView, PendingItem, PendingItems, When};
 use io_caps::{Device, NoMemory, Rate};
 use itoa::Buffer;
 use map_entry::{Action, OutputChange};
-use plain_book::{Activation, ActiveView, PendingItem, PendingItems, When};
 use serde_json::{Map, Value, json, put};
 use std::alloc::{AllocError, Global};
 use tai_time::{Tai, tick_start};
@@ -166,7 +166,7 @@ fn active_value(
 }
 
 /// Appends the reply to an accepted activation: an object from its id to what is changed and when.
-/// Want of memory leaves `out` as it was.
+/// If memory runs out, `out` stays as it was.
 pub fn activation_body(
     alloc: Global,
     device: &Device,
@@ -184,7 +184,8 @@ pub fn activation_body(
     append(alloc, &value, out)
 }
 
-/// Appends a pending activation: what is changed and when. Want of memory leaves `out` as it was.
+/// Appends a pending activation: what is changed and when. If memory runs out, `out` stays as it
+/// was.
 pub fn item_body(
     alloc: Global,
     device: &Device,
@@ -198,8 +199,8 @@ pub fn item_body(
     append(alloc, &value, out)
 }
 
-/// Appends the pending activations: an object from id to item. Want of memory leaves `out` as it
-/// was.
+/// Appends the pending activations: an object from id to item. If memory runs out, `out` stays as
+/// it was.
 pub fn pending_body(
     alloc: Global,
     device: &Device,
@@ -213,8 +214,8 @@ pub fn pending_body(
     append(alloc, &value, out)
 }
 
-/// Appends the active map, with the rows of all outputs or of one alone. Want of memory leaves
-/// `out` as it was.
+/// Appends the active map, with the rows of all outputs or of one alone. If memory runs out, `out`
+/// stays as it was.
 pub fn active_body(
     alloc: Global,
     device: &Device,

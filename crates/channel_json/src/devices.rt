@@ -354,8 +354,8 @@ fn build(alloc: Global, parts: DeviceParts, rows: Rows) -> Result<Setup, Or<Devi
 }
 
 /// The device with its base rows that a text says. Keys that are not named are not looked at. It is
-/// refused with the first fault, in the order of [`DeviceJsonFault`]; want of memory says nothing
-/// of the text.
+/// refused with the first fault, in the order of [`DeviceJsonFault`]; running out of memory says
+/// nothing of the text.
 pub fn device_of(alloc: Global, text: &[u8]) -> Result<Setup, Or<DeviceJsonFault>>
     ensures { ReadsDevice text.now result }
 {

@@ -15,7 +15,8 @@ fn error_value(alloc: Global, code: u16, text: &str) -> Result<Value, AllocError
     json!(in alloc; {"code": code, "debug": null, "error": text})
 }
 
-/// Appends what is said of an error: `code` is the status. Want of memory leaves `out` as it was.
+/// Appends what is said of an error: `code` is the status. If memory runs out, `out` stays as it
+/// was.
 pub fn error_body(alloc: Global, code: u16, text: &str, out: &mut Vec<u8>) -> Result<(), NoMemory>
     ensures ok { OnOk result (out.new.items ≡ out.old.items ++ error_text code text.now) }
     ensures err { OnErr result (out.new.items ≡ out.old.items) }

@@ -1,28 +1,28 @@
-//! Why a device or a request isn't read.
+//! Why a device or a request is not read.
 
 use io_caps::{DeviceFault, NoMemory, TryCopy};
 use map_entry::SetupFault;
 use thiserror::Error;
 
-/// Why a device isn't read, in this order.
+/// Why a device is not read, in this order.
 #[derive(Clone, Copy, Debug, PartialEq, Eq, Error)]
 pub enum DeviceJsonFault {
     /// The text is no JSON value (RFC 8259), or one that nests deeper than 127.
     #[error("the text is not JSON")]
     NotJson,
     /// A key is missing, a value has another type, a number is no whole number of its field's
-    /// range, a UUID's text has no reading, or an input's id isn't there.
+    /// range, a UUID's text has no reading, or an input's id is not there.
     #[error("the value is not a device")]
     Shape,
     /// The device breaks a limit.
     #[error("{0}")]
     Device(DeviceFault),
-    /// The base rows don't fit the device.
+    /// The base rows do not fit the device.
     #[error("{0}")]
     Rows(SetupFault),
 }
 
-/// Where a request isn't as it should be, in the order in which it is looked at.
+/// Where a request is not as it should be, in the order in which it is looked at.
 #[derive(Clone, Copy, Debug, PartialEq, Eq, Error)]
 pub enum Place {
     /// The whole is no object.
@@ -48,20 +48,20 @@ pub enum Place {
     Cell,
 }
 
-/// Why a request isn't read: the first that applies, where the keys of `action` and of each output
+/// Why a request is not read: the first that applies, where the keys of `action` and of each output
 /// are looked at in the order of their bytes.
 #[derive(Clone, Copy, Debug, PartialEq, Eq, Error)]
 pub enum BodyFault {
     /// The text is no JSON value (RFC 8259), or one that nests deeper than 127.
     #[error("the text is not JSON")]
     NotJson,
-    /// A part of the body isn't as it should be: this one.
+    /// A part of the body is not as it should be: this one.
     #[error("{0}")]
     Shape(Place),
-    /// An output's id isn't there.
+    /// An output's id is not there.
     #[error("there is no output of that id")]
     UnknownOutput,
-    /// An input's id isn't there.
+    /// An input's id is not there.
     #[error("there is no input of that id")]
     UnknownInput,
 }

@@ -28,7 +28,7 @@ fn output_place(outputs: &[Output], id: &[u8]) -> Option<usize>
     outputs.iter().position(|output| is_id(&output.id, id))
 }
 
-/// The number of the input of an id, and `None` where it isn't there.
+/// The number of the input of an id, and `None` where it is not there.
 pub fn input_number(device: &Device, id: &[u8]) -> Option<u8>
     ensures value { result ≡ input_number device.now id.now }
     ensures there { IfSome result (λ input. input < length device.now.inputs) }
@@ -39,7 +39,7 @@ pub fn input_number(device: &Device, id: &[u8]) -> Option<u8>
     }
 }
 
-/// The number of the output of an id, and `None` where it isn't there.
+/// The number of the output of an id, and `None` where it is not there.
 pub fn output_number(device: &Device, id: &[u8]) -> Option<u8>
     ensures value { result ≡ output_number device.now id.now }
     ensures there { IfSome result (λ output. output < length device.now.outputs) }

@@ -15,11 +15,11 @@ use crate::fields::{document, is_null_at, object_at, text_at, whole_at};
 use crate::ids::{input_number, output_number};
 use crate::values::output_id;
 use crate::{BodyFault, Place};
+use book_words::{Request, When};
 use exact_text::Misread;
 use io_caps::{Device, NoMemory, Or};
 use itoa::Buffer;
 use map_entry::{Action, Cell, Change, Changes, OutputChange};
-use plain_book::{Request, When};
 use serde_json::{Map, Value};
 use std::alloc::Global;
 use tai_time::Tai;
@@ -257,7 +257,7 @@ fn output_at(
     }
 }
 
-/// Adds what is changed of an output behind those of lower numbers, where something is.
+/// Adds what is changed of an output after those of lower numbers, where something is.
 fn push_output(action: &mut Action, change: Option<OutputChange>) -> Result<(), NoMemory>
     requires { IfSome change (λ c. IfSome (slice_get action.old (length action.old - 1))
         (λ last. last.output < c.output)) }
@@ -301,8 +301,8 @@ fn activate(
 }
 
 /// The activation that the body of a POST asks for, or the first fault. The outputs are put in the
-/// order of the device, and the channels of each in that of their numbers. Want of memory says
-/// nothing of the text.
+/// order of the device, and the channels of each in that of their numbers. Running out of memory
+/// says nothing of the text.
 pub fn request_of(alloc: Global, device: &Device, text: &[u8]) -> Result<Request, Or<BodyFault>>
     ensures { Answers (request_by device.now text.now) result }
 {

@@ -170,7 +170,7 @@ fn io_value(alloc: Global, device: &Device) -> Result<Value, AllocError>
     json!(in alloc; {"inputs": inputs, "outputs": outputs})
 }
 
-/// A name with a slash behind it.
+/// A name followed by a slash.
 fn name_value(alloc: Global, name: &str) -> Result<Value, AllocError>
     ensures { IfOk result (λ v. view v ≡ name_data name.now) }
 {
@@ -179,7 +179,7 @@ fn name_value(alloc: Global, name: &str) -> Result<Value, AllocError>
     Ok(Value::String(text))
 }
 
-/// Names of resources, each with a slash behind it.
+/// Names of resources, each followed by a slash.
 fn names_value(alloc: Global, names: &[&str]) -> Result<Value, AllocError>
     ensures { IfOk result (λ v. view v ≡ array_of (map (λ name. name_data name.now) names.now)) }
 {
@@ -242,7 +242,7 @@ fn resource_value(alloc: Global, device: &Device, resource: Resource) -> Result<
     }
 }
 
-/// Appends the value of a resource that is there. Want of memory leaves `out` as it was.
+/// Appends the value of a resource that is there. If memory runs out, `out` stays as it was.
 pub fn resource_body(
     alloc: Global,
     device: &Device,

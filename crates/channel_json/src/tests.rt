@@ -4,9 +4,9 @@ use crate::{
     BodyFault, DeviceJsonFault, Place, Resource, activation_body, active_body, device_of,
     error_body, item_body, pending_body, request_of, resource_body,
 };
+use book_words::{ActiveView, PendingItem, PendingItems, Request, When};
 use io_caps::{Device, DeviceFault, NoMemory, Or, Slot, TryCopy};
 use map_entry::{Action, RowFault, Setup, SetupFault};
-use plain_book::{ActiveView, PendingItem, PendingItems, Request, When};
 use std::alloc::Global;
 use std::process::Abort;
 use std::test::Fail;
@@ -28,7 +28,7 @@ const OUTPUT_Y: &str = "{\"id\":\"y\",\"channels\":[{\"label\":\"1\"},{\"label\"
     \"width\":24,\"payload_type\":97,\"ssrc\":2,\"routable_inputs\":[\"b\",null],\
     \"source_id\":\"6ba7b8109dad11d180b400c04fd430c8\"}";
 
-/// The device of two inputs and two outputs, with more members behind those of the first input, of
+/// The device of two inputs and two outputs, with more members after those of the first input, of
 /// the first output, and of the whole. Of a doubled key the last value stays.
 fn device_text(alloc: Global, input: &str, output: &str, whole: &str) -> Result<Vec<u8>, NoMemory> {
     let mut text = Vec::new(alloc);
@@ -184,7 +184,7 @@ const LIMITS: [([&str; 3], DeviceFault); 10] = [
     ),
 ];
 
-/// Members with which the base row of the first output doesn't fit.
+/// Members with which the base row of the first output does not fit.
 const ROWS: [([&str; 3], SetupFault); 6] = [
     (["", ",\"map\":[null]", ""], SetupFault::Count),
     (
@@ -266,7 +266,7 @@ fn broken_devices(rt: HostRuntime) -> Result<(), Fail> {
     Ok(())
 }
 
-/// The same text so many times, with commas between.
+/// The same text a given number of times, with commas between.
 fn list_of(alloc: Global, item: &str, count: usize) -> Result<String, NoMemory> {
     let mut list = String::new(alloc);
     for at in 0..count {
@@ -276,8 +276,8 @@ fn list_of(alloc: Global, item: &str, count: usize) -> Result<String, NoMemory> 
     Ok(list)
 }
 
-/// A device of inputs `a`, `b` and `c` with so many channels each, which stand so many times in its
-/// list, and of so many outputs.
+/// A device of inputs `a`, `b` and `c` with a given number of channels each, which stand a given
+/// number of times in its list, and of a given number of outputs.
 fn large_device(
     alloc: Global,
     channels: [usize; 3],

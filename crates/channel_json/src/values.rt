@@ -11,7 +11,7 @@ use io_caps::{Device, NoMemory};
 use serde_json::Value;
 use std::alloc::Global;
 
-/// A text as JSON shows it: the empty text where it isn't UTF-8.
+/// A text as JSON shows it: the empty text where it is not UTF-8.
 pub(crate) fn shown(text: &[u8]) -> &str
     ensures { result.now ≡ shown_text text.now }
 {
@@ -29,7 +29,7 @@ pub(crate) fn id_text(id: &[u8]) -> &str
     shown(id)
 }
 
-/// The id of an input, and the empty text where it isn't there.
+/// The id of an input, and the empty text where it is not there.
 pub(crate) fn input_id(device: &Device, input: u8) -> &str
     ensures { result.now ≡ input_id device.now input }
 {
@@ -39,7 +39,7 @@ pub(crate) fn input_id(device: &Device, input: u8) -> &str
     }
 }
 
-/// The id of an output, and the empty text where it isn't there.
+/// The id of an output, and the empty text where it is not there.
 pub(crate) fn output_id(device: &Device, output: u8) -> &str
     ensures { result.now ≡ output_id device.now output }
 {
@@ -49,7 +49,7 @@ pub(crate) fn output_id(device: &Device, output: u8) -> &str
     }
 }
 
-/// Appends the text of a value that has no fraction. Want of memory leaves `out` as it was.
+/// Appends the text of a value that has no fraction. If memory runs out, `out` stays as it was.
 pub(crate) fn append(alloc: Global, value: &Value, out: &mut Vec<u8>) -> Result<(), NoMemory>
     requires { has_float (view value.now) ≡ false }
     ensures ok { OnOk result (out.new.items ≡ out.old.items ++ compact_text (view value.now)) }

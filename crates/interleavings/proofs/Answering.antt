@@ -1,4 +1,4 @@
--- The calls of a run are answered by a book, one behind the other.
+-- The calls of a run are answered by a book, one after the other.
 use Rattle.std.proofs.Common.{◌≡◌, ℕ, eqb, List, [], ◌∷◌, ◌++◌, length, Option, Some, None, inl}
 use Rattle.std.proofs.Common.{inr, refl, sym, ap, subst, ◌∙◌, arith}
 use Rattle.std.specs.Prelude.{filter_map, map, option_map}
@@ -8,14 +8,14 @@ use Rattle.std.proofs.lemmas.Bool.{cases_Bool}
 use Rattle.std.proofs.lemmas.List.{append-nil, map-append}
 use Rattle.std.proofs.lemmas.List.Elements.{filter-append, filter_map-append}
 use Rattle.map_entry.specs.Setup.{SetupParts}
-use Rattle.plain_book.specs.declared.calls.JournalCall.{JournalCall}
-use Rattle.plain_book.specs.declared.given.Given.{Given}
-use Rattle.plain_book.specs.declared.history.ReplyItem.{ReplyItem}
-use Rattle.plain_book.specs.declared.requests.Request.{Request}
+use Rattle.book_words.specs.declared.calls.JournalCall.{JournalCall}
+use Rattle.book_words.specs.declared.given.Given.{Given}
+use Rattle.book_words.specs.declared.history.ReplyItem.{ReplyItem}
+use Rattle.book_words.specs.declared.requests.Request.{Request}
 use Rattle.plain_book.specs.Book.{call_of, reply_of}
 use Rattle.plain_book.specs.Desk.{IsAsked}
 use Rattle.plain_book.specs.Given.{AreGiven, given_reply}
-use Rattle.plain_book.specs.History.{stamp}
+use Rattle.book_words.specs.History.{stamp}
 use Rattle.plain_book.proofs.Giving.{given_later, given_legal, given_more}
 use Rattle.plain_book.proofs.Prefixes.{no_calls}
 use Rattle.interleavings.specs.declared.events.Event.{Event}
@@ -67,7 +67,7 @@ same_given s gs hs j k m n given journal claims are =
     (subst (λ (x : List JournalCall). AreGiven s [] 0 hs x m) journal
     (subst (λ (x : List Given). AreGiven s [] 0 x j m) given are))
 
--- an event that isn't a call
+-- an event that is not a call
 quiet : (s : SetupParts) (before : List Taken) (t : Taken) → given_in (t ∷ []) ≡ []
     → call_in s (journal_in s before) t.event t.answer ≡ None → AreAnswered s before
     → AreAnswered s (before ++ t ∷ [])

@@ -9,12 +9,12 @@ use Rattle.std.proofs.lemmas.List.FromFn.{get_or-map-range_with_len, map-range_w
 use Rattle.list_laws.proofs.Ranges.{map_same_below}
 use Rattle.map_entry.specs.Setup.{SetupParts}
 use Rattle.packet_writer.specs.Packet.{Blocks, claim_rows, flag_of}
-use Rattle.plain_book.specs.declared.calls.JournalCall.{JournalCall}
-use Rattle.plain_book.specs.declared.history.ClaimItem.{ClaimItem}
-use Rattle.plain_book.specs.declared.history.History.{History}
-use Rattle.plain_book.specs.declared.requests.Request.{Request}
+use Rattle.book_words.specs.declared.calls.JournalCall.{JournalCall}
+use Rattle.book_words.specs.declared.history.ClaimItem.{ClaimItem}
+use Rattle.book_words.specs.declared.history.History.{History}
+use Rattle.book_words.specs.declared.requests.Request.{Request}
 use Rattle.plain_book.specs.Desk.{DeskParts, desk_parts}
-use Rattle.plain_book.specs.History.{history_of, put}
+use Rattle.book_words.specs.History.{history_of, put}
 use Rattle.plain_book.specs.Journal.{entries_of}
 use Rattle.plain_book.specs.Time.{tick_of_claim}
 use Rattle.plain_book.proofs.Waiting.{HasOutputs}

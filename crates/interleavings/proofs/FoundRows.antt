@@ -21,7 +21,7 @@ use Rattle.packet_writer.specs.Heard.{AreRows}
 use Rattle.packet_writer.specs.Packet.{Blocks, claim_rows, flag_of, output_of_claim, packet_by}
 use Rattle.packet_writer.specs.Packet.{tick_of_claim}
 use Rattle.packet_writer.proofs.ClaimLaws.{names_by-same, packet_by-same}
-use Rattle.plain_book.specs.declared.calls.JournalCall.{JournalCall}
+use Rattle.book_words.specs.declared.calls.JournalCall.{JournalCall}
 use Rattle.plain_book.specs.Journal.{entries_of}
 use Rattle.plain_book.specs.Legal.{IsLegalJournal}
 use Rattle.plain_book.specs.Rows.{SelectsAlike}
@@ -67,12 +67,12 @@ begun_before s before x some =
 
 -- ---- rows
 
--- a journal goes on by calls that were accepted at so many claims or later
+-- a journal goes on by calls that were accepted at a number of claims or later
 abbrev pub IsWithLater : List JournalCall → ℕ → List JournalCall → Type 0
 IsWithLater before low after = (more : List JournalCall) × (after ≡ before ++ more)
     × All (λ c. low ≤ c.at) more
 
--- calls behind a claim leave its row
+-- calls after a claim leave its row
 later_leave : (s : SetupParts) (m low : ℕ) (journal last : List JournalCall) (o k : ℕ)
     → HasOutputs s → IsLegalJournal s m last → IsWithLater journal low last → k < low
     → selected (entries_of s journal) o (tick_of_claim s k)

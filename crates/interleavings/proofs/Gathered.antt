@@ -11,7 +11,7 @@ use Rattle.map_entry.specs.Setup.{SetupParts}
 use Rattle.packet_writer.specs.Flags.{Sights, names_by}
 use Rattle.packet_writer.specs.Heard.{sample_in}
 use Rattle.packet_writer.specs.Packet.{Blocks, flag_of, tick_of_claim}
-use Rattle.plain_book.specs.declared.history.ClaimItem.{ClaimItem}
+use Rattle.book_words.specs.declared.history.ClaimItem.{ClaimItem}
 use Rattle.interleavings.specs.Facts.{Agrees, Draw, Gathering, Heard, IsItem, IsWorked, Look, Made}
 use Rattle.interleavings.specs.Facts.{is_packet}
 use Rattle.interleavings.specs.Facts.Gathering.{GatherClosed, GatherFree}

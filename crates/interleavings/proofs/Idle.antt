@@ -17,11 +17,11 @@ use Rattle.map_entry.specs.Setup.{SetupParts}
 use Rattle.packet_writer.specs.Flags.{names_by}
 use Rattle.packet_writer.specs.Packet.{Blocks, flag_of, packet_by, tick_of_claim}
 use Rattle.packet_writer.proofs.ClaimLaws.{packet_by-same}
-use Rattle.plain_book.specs.declared.calls.JournalCall.{JournalCall}
-use Rattle.plain_book.specs.declared.given.Given.{Given}
-use Rattle.plain_book.specs.declared.history.ClaimItem.{ClaimItem}
+use Rattle.book_words.specs.declared.calls.JournalCall.{JournalCall}
+use Rattle.book_words.specs.declared.given.Given.{Given}
+use Rattle.book_words.specs.declared.history.ClaimItem.{ClaimItem}
 use Rattle.plain_book.specs.Given.{AreGiven}
-use Rattle.plain_book.specs.History.{claim_item}
+use Rattle.book_words.specs.History.{claim_item}
 use Rattle.plain_book.specs.Journal.{entries_of}
 use Rattle.plain_book.proofs.Lists.{all_append}
 use Rattle.plain_book.proofs.Sound.{all_map}
@@ -58,7 +58,7 @@ missed_look s k input =
       closed = tick_of_claim s k + 1;
     }
 
--- such looks at all inputs for so many claims
+-- such looks at all inputs for a given number of claims
 abbrev looks_from : SetupParts → ℕ → ℕ → List Look
 looks_from s a zero = []
 looks_from s a (suc n) =

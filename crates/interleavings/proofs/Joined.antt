@@ -5,14 +5,14 @@ use Rattle.std.specs.Prelude.{fold}
 use Rattle.std.proofs.lemmas.List.Elements.{All-append, All-nil}
 use Rattle.map_entry.specs.Setup.{SetupParts}
 use Rattle.packet_writer.specs.Packet.{Blocks}
-use Rattle.plain_book.specs.declared.calls.JournalCall.{JournalCall}
-use Rattle.plain_book.specs.declared.given.Given.{Given}
-use Rattle.plain_book.specs.declared.history.ClaimItem.{ClaimItem}
-use Rattle.plain_book.specs.declared.history.History.{History}
-use Rattle.plain_book.specs.declared.history.ReplyItem.{ReplyItem}
-use Rattle.plain_book.specs.declared.requests.Request.{Request}
+use Rattle.book_words.specs.declared.calls.JournalCall.{JournalCall}
+use Rattle.book_words.specs.declared.given.Given.{Given}
+use Rattle.book_words.specs.declared.history.ClaimItem.{ClaimItem}
+use Rattle.book_words.specs.declared.history.History.{History}
+use Rattle.book_words.specs.declared.history.ReplyItem.{ReplyItem}
+use Rattle.book_words.specs.declared.requests.Request.{Request}
 use Rattle.plain_book.specs.Given.{AreGiven, replies_of}
-use Rattle.plain_book.specs.History.{history_of, put}
+use Rattle.book_words.specs.History.{history_of, put}
 use Rattle.plain_book.specs.Legal.{IsLegalJournal}
 use Rattle.plain_book.proofs.Giving.{given_then, parts_given}
 use Rattle.plain_book.proofs.Waiting.{HasOutputs}
@@ -67,7 +67,7 @@ no_items s g blocks last at to same = record {
   claimed = tt;
 }
 
--- all parts behind what has been joined
+-- all parts after what has been joined
 far_joined : (s : SetupParts) (g : Gathering) (blocks : Blocks) (m from : ℕ)
     (journal : List JournalCall) (laps : List Lap) (end last : List JournalCall)
     (late given : List Given) (h : History) (parts : List History) → HasOutputs s

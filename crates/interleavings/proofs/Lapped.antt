@@ -10,8 +10,8 @@ use Rattle.std.proofs.lemmas.List.Elements.{filter-append, recursion_from_All}
 use Rattle.map_entry.specs.Setup.{SetupParts}
 use Rattle.map_entry.specs.declared.entry.Entry.{Entry}
 use Rattle.packet_writer.specs.Packet.{Blocks, tick_of_claim}
-use Rattle.plain_book.specs.declared.calls.JournalCall.{JournalCall}
-use Rattle.plain_book.specs.declared.history.ClaimItem.{ClaimItem}
+use Rattle.book_words.specs.declared.calls.JournalCall.{JournalCall}
+use Rattle.book_words.specs.declared.history.ClaimItem.{ClaimItem}
 use Rattle.plain_book.specs.Journal.{entries_of}
 use Rattle.plain_book.specs.Legal.{IsLegalJournal}
 use Rattle.plain_book.proofs.Waiting.{HasOutputs}

@@ -12,7 +12,7 @@ use Rattle.std.proofs.lemmas.List.Elements.{recursion_from_All}
 use Rattle.std.proofs.lemmas.List.Sums.{sum_by-append}
 use Rattle.std.proofs.lemmas.List.Sorted.{sum_by-IsPermutation}
 use Rattle.list_laws.proofs.Items.{count_by-append}
-use Rattle.plain_book.specs.declared.history.ClaimItem.{ClaimItem}
+use Rattle.book_words.specs.declared.history.ClaimItem.{ClaimItem}
 
 -- ---- counts
 
@@ -95,7 +95,7 @@ counted_shuffled low high xs ys moved is = record {
       moved ∙ is.none k out;
 }
 
--- one range behind another
+-- one range after another
 pub counted_then : (low mid high : ℕ) (xs ys : List ClaimItem) → low ≤ mid → mid ≤ high
     → AreCounted low mid xs → AreCounted mid high ys → AreCounted low high (xs ++ ys)
 counted_then low mid high xs ys up more first second = record {

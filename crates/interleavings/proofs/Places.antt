@@ -11,23 +11,23 @@ use Rattle.std.proofs.lemmas.List.{append-nil}
 use Rattle.std.proofs.lemmas.List.Elements.{All-append, All-cons, All-nil}
 use Rattle.std.proofs.lemmas.Option.{slice_get_within}
 use Rattle.map_entry.specs.Setup.{SetupParts}
-use Rattle.plain_book.specs.declared.calls.JournalCall.{JournalCall}
-use Rattle.plain_book.specs.declared.given.Given.{Given}
-use Rattle.plain_book.specs.declared.replies.Refusal.{Refusal}
-use Rattle.plain_book.specs.declared.replies.Refusal.TheVariants.{NotPending}
-use Rattle.plain_book.specs.declared.replies.Reply.{Reply}
-use Rattle.plain_book.specs.declared.replies.Reply.TheVariants.{Deleted, Refused}
-use Rattle.plain_book.specs.declared.requests.Request.{Request}
-use Rattle.plain_book.specs.declared.requests.Request.TheVariants.{Activate, Delete, Active}
-use Rattle.plain_book.specs.declared.requests.Request.TheVariants.{Pending}
-use Rattle.plain_book.specs.declared.requests.Stamp.{Stamp}
-use Rattle.plain_book.specs.declared.requests.When.{When}
-use Rattle.plain_book.specs.declared.requests.When.TheVariants.{Now, At, After}
+use Rattle.book_words.specs.declared.calls.JournalCall.{JournalCall}
+use Rattle.book_words.specs.declared.given.Given.{Given}
+use Rattle.book_words.specs.declared.replies.Refusal.{Refusal}
+use Rattle.book_words.specs.declared.replies.Refusal.TheVariants.{NotPending}
+use Rattle.book_words.specs.declared.replies.Reply.{Reply}
+use Rattle.book_words.specs.declared.replies.Reply.TheVariants.{Deleted, Refused}
+use Rattle.book_words.specs.declared.requests.Request.{Request}
+use Rattle.book_words.specs.declared.requests.Request.TheVariants.{Activate, Delete, Active}
+use Rattle.book_words.specs.declared.requests.Request.TheVariants.{Pending}
+use Rattle.book_words.specs.declared.requests.Stamp.{Stamp}
+use Rattle.book_words.specs.declared.requests.When.{When}
+use Rattle.book_words.specs.declared.requests.When.TheVariants.{Now, At, After}
 use Rattle.plain_book.specs.Book.{call_of, deletion, landing_tick, refusal_of, reply_of}
 use Rattle.plain_book.specs.Given.{AreGiven, IsGiven, journal_after}
 use Rattle.plain_book.specs.Legal.{IsLegalJournal}
 use Rattle.plain_book.specs.Pending.{next_id, pending_call}
-use Rattle.plain_book.specs.Replies.{accepted}
+use Rattle.book_words.specs.Replies.{accepted}
 use Rattle.plain_book.proofs.Commits.{legal_later}
 use Rattle.plain_book.proofs.Giving.{call_parts, given_below, given_legal}
 use Rattle.interleavings.specs.Legal.{IsPlace, accepts, next_floor, reply_at}
@@ -351,7 +351,7 @@ made_or_not s before low g gs after high is number client call here at None e re
     makers_skip number client g gs (and_right (eqb g.stamp.calls number) (accepts g.reply) none)
     ∙ rest (omega (arith, same, here))
 
--- the call of each number behind these was made by one answer, which is one of its own client
+-- the call of each number after these was made by one answer, which is one of its own client
 pub one_maker : (s : SetupParts) (before : List JournalCall) (low : ℕ) (given : List Given)
     (after : List JournalCall) (high : ℕ) → AreGiven s before low given after high
     → (number client : ℕ) (call : JournalCall) → length before ≤ number

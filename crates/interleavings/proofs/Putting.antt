@@ -4,8 +4,8 @@ use Rattle.std.proofs.Common.{[], ◌∷◌, length, Some, inl, inr, refl, sym, 
 use Rattle.std.proofs.Common.{arith}
 use Rattle.std.specs.Prelude.{IfSome, slice_get}
 use Rattle.std.specs.List.{AllByRecursion, insert}
-use Rattle.plain_book.specs.declared.history.ReplyItem.{ReplyItem}
-use Rattle.plain_book.specs.History.{AreInOrder, IsNoLater, comes_before, put}
+use Rattle.book_words.specs.declared.history.ReplyItem.{ReplyItem}
+use Rattle.book_words.specs.History.{AreInOrder, IsNoLater, comes_before, put}
 use Rattle.plain_book.proofs.Ordering.{AreNoLater, no_later-cases, no_later-from}
 
 trans_cases : (x y z : ReplyItem) → AreNoLater x y → AreNoLater y z → AreNoLater x z
@@ -40,7 +40,7 @@ first_no_later x item xs zero y order at before = let same : x ≡ y = cc in rw 
 first_no_later x item xs (suc n) y order at before =
     no_later_trans x y item (each_no_later x xs n y order.0 at) before
 
--- a reply stands behind that at the place below, where there is one
+-- a reply follows that at the place below, where there is one
 abbrev pub IsBehind : List ReplyItem → ReplyItem → ℕ → Type 0
 IsBehind replies item zero = Unit {0}
 IsBehind replies item (suc n) = (y : ReplyItem) × (slice_get replies n ≡ Some y)
@@ -51,7 +51,7 @@ behind_rest : (x item : ReplyItem) (xs : List ReplyItem) (n : ℕ) → IsBehind 
 behind_rest x item xs zero behind = tt
 behind_rest x item xs (suc n) behind = behind
 
--- A place where a reply stands behind the one below and before the one there is the one where it is
+-- A place where a reply follows the one below and before the one there is the one where it is
 -- put.
 pub put_there : (replies : List ReplyItem) (item : ReplyItem) (at : ℕ) → AreInOrder replies
     → at ≤ length replies

@@ -13,11 +13,11 @@ use Rattle.list_laws.proofs.Ranges.{map_same_below}
 use Rattle.list_laws.proofs.Options.{option_or-None}
 use Rattle.map_entry.specs.Setup.{SetupParts}
 use Rattle.packet_writer.specs.Packet.{Blocks}
-use Rattle.plain_book.specs.declared.calls.JournalCall.{JournalCall}
-use Rattle.plain_book.specs.declared.history.ClaimItem.{ClaimItem}
-use Rattle.plain_book.specs.declared.history.ReplyItem.{ReplyItem}
+use Rattle.book_words.specs.declared.calls.JournalCall.{JournalCall}
+use Rattle.book_words.specs.declared.history.ClaimItem.{ClaimItem}
+use Rattle.book_words.specs.declared.history.ReplyItem.{ReplyItem}
 use Rattle.plain_book.specs.Desk.{desk_parts}
-use Rattle.plain_book.specs.History.{history_of, in_order, put}
+use Rattle.book_words.specs.History.{history_of, in_order, put}
 use Rattle.plain_book.proofs.Waiting.{HasOutputs}
 use Rattle.interleavings.specs.declared.events.Answer.{Answer}
 use Rattle.interleavings.specs.declared.events.Answer.TheVariants.{Done, Over}

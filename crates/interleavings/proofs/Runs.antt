@@ -9,7 +9,7 @@ use Rattle.std.proofs.lemmas.List.Sums.{sum_by-append}
 use Rattle.std.proofs.lemmas.Option.{get_or_from_slice_get}
 use Rattle.list_laws.proofs.Items.{slice_get-push}
 use Rattle.map_entry.specs.Setup.{SetupParts}
-use Rattle.plain_book.specs.declared.calls.JournalCall.{JournalCall}
+use Rattle.book_words.specs.declared.calls.JournalCall.{JournalCall}
 use Rattle.plain_book.proofs.Lists.{slice_get_take}
 use Rattle.plain_book.proofs.Prefixes.{no_item}
 use Rattle.interleavings.specs.declared.events.Taken.{Taken}
@@ -49,7 +49,7 @@ upto s ticks P none more events run (suc k) le =
     (step_to s ticks P more events run k (slice_get events k) refl (omega (arith, le))
     (upto s ticks P none more events run k (omega (arith, le))))
 
--- what holds of no events, and of one more event behind a run of which it holds, holds of each run
+-- what holds of no events, and of one more event after a run of which it holds, holds of each run
 pub run_by : (s : SetupParts) (ticks : ℕ) (P : List Taken → Type 0) → P [] → IsStep s ticks P
     → (events : List Taken) → IsRun s ticks events → P events
 run_by s ticks P none more events run =

@@ -7,12 +7,12 @@ use Rattle.std.proofs.lemmas.List.{append-nil}
 use Rattle.map_entry.specs.Setup.{SetupParts}
 use Rattle.packet_writer.specs.Packet.{Blocks}
 use Rattle.packet_writer.proofs.ClaimLaws.{closed_flags-closed}
-use Rattle.plain_book.specs.declared.calls.JournalCall.{JournalCall}
-use Rattle.plain_book.specs.declared.given.Given.{Given}
-use Rattle.plain_book.specs.declared.requests.Request.{Request}
+use Rattle.book_words.specs.declared.calls.JournalCall.{JournalCall}
+use Rattle.book_words.specs.declared.given.Given.{Given}
+use Rattle.book_words.specs.declared.requests.Request.{Request}
 use Rattle.plain_book.specs.Book.{reply_of}
 use Rattle.plain_book.specs.Given.{AreGiven, given_reply}
-use Rattle.plain_book.specs.History.{stamp}
+use Rattle.book_words.specs.History.{stamp}
 use Rattle.plain_book.specs.Journal.{entries_of}
 use Rattle.plain_book.proofs.Giving.{given_then}
 use Rattle.interleavings.specs.Legal.{IsClaim, IsClosedHistory, closed_form}
@@ -23,7 +23,7 @@ use Rattle.interleavings.specs.Serial.SerialStep.{Claims, Ask}
 use Rattle.interleavings.specs.Told.{requests_of}
 use Rattle.interleavings.proofs.Whole.{claims_legal, given_history}
 
--- the book's answer to a request behind these
+-- the book's answer to a request after these
 abbrev given_at : SetupParts → SerialParts → ℕ → Request → Given
 given_at s p client request =
     record {
@@ -33,7 +33,7 @@ given_at s p client request =
       stamp = stamp (length p.journal) p.claims;
     }
 
--- the answers of steps behind these
+-- the answers of steps after these
 abbrev given_by : SetupParts → SerialParts → List SerialStep → List Given
 given_by s p [] = []
 given_by s p (Claims count ∷ steps) = given_by s (serial_step s p (Claims count)) steps

@@ -8,15 +8,15 @@ use Rattle.std.proofs.lemmas.List.Sorted.{All-permutation}
 use Rattle.std.proofs.lemmas.Option.{slice_get_within, get_or_from_slice_get}
 use Rattle.map_entry.specs.Setup.{SetupParts}
 use Rattle.packet_writer.specs.Packet.{Blocks}
-use Rattle.plain_book.specs.declared.calls.JournalCall.{JournalCall}
-use Rattle.plain_book.specs.declared.given.Given.{Given}
-use Rattle.plain_book.specs.declared.history.ClaimItem.{ClaimItem}
-use Rattle.plain_book.specs.declared.history.ReplyItem.{ReplyItem}
-use Rattle.plain_book.specs.declared.history.Said.{Said}
-use Rattle.plain_book.specs.declared.replies.Reply.{Reply}
-use Rattle.plain_book.specs.declared.requests.Request.{Request}
+use Rattle.book_words.specs.declared.calls.JournalCall.{JournalCall}
+use Rattle.book_words.specs.declared.given.Given.{Given}
+use Rattle.book_words.specs.declared.history.ClaimItem.{ClaimItem}
+use Rattle.book_words.specs.declared.history.ReplyItem.{ReplyItem}
+use Rattle.book_words.specs.declared.history.Said.{Said}
+use Rattle.book_words.specs.declared.replies.Reply.{Reply}
+use Rattle.book_words.specs.declared.requests.Request.{Request}
 use Rattle.plain_book.specs.Given.{AreGiven}
-use Rattle.plain_book.specs.History.{AreInOrder, history_of, replies_to}
+use Rattle.book_words.specs.History.{AreInOrder, history_of, replies_to}
 use Rattle.plain_book.specs.Journal.{entries_of}
 use Rattle.plain_book.specs.Legal.{IsLegalJournal}
 use Rattle.plain_book.proofs.Giving.{given_legal, given_then}
@@ -54,7 +54,7 @@ laps_below s g blocks from journal [] claims end are = omega (arith, are.0)
 laps_below s g blocks from journal (l ∷ ls) claims end are = let rest =
     laps_below s g blocks (from + l.made) l.journal ls claims end are.1.1.1 in omega (arith, rest)
 
--- the answers behind a lap, and those to what was left
+-- the answers after a lap, and those to what was left
 pub behind_lap : (s : SetupParts) (g : Gathering) (blocks : Blocks) (from : ℕ) (l : Lap)
     (ls : List Lap) (claims : ℕ) (end last : List JournalCall) (late : List Given)
     → AreLaps s g blocks (from + l.made) l.journal ls claims end

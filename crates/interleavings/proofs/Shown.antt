@@ -14,8 +14,8 @@ use Rattle.map_entry.specs.Setup.{SetupParts}
 use Rattle.packet_writer.specs.Flags.{is_named}
 use Rattle.packet_writer.specs.Heard.{HasFrames}
 use Rattle.packet_writer.specs.Packet.{Blocks, claim_rows, flag_of, output_of_claim, packet_by}
-use Rattle.plain_book.specs.declared.calls.JournalCall.{JournalCall}
-use Rattle.plain_book.specs.History.{claim_item}
+use Rattle.book_words.specs.declared.calls.JournalCall.{JournalCall}
+use Rattle.book_words.specs.History.{claim_item}
 use Rattle.plain_book.specs.Journal.{entries_of}
 use Rattle.plain_book.specs.Time.{tick_of_claim}
 use Rattle.interleavings.specs.Core.{HasRow}

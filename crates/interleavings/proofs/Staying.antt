@@ -19,11 +19,11 @@ use Rattle.map_entry.specs.Setup.{SetupParts}
 use Rattle.packet_writer.specs.Flags.{is_named}
 use Rattle.packet_writer.specs.Packet.{Blocks, claim_rows, flag_of, found_block, output_of_claim}
 use Rattle.packet_writer.specs.Packet.{packet_on}
-use Rattle.plain_book.specs.declared.calls.JournalCall.{JournalCall}
-use Rattle.plain_book.specs.declared.history.ClaimItem.{ClaimItem}
-use Rattle.plain_book.specs.declared.requests.Request.{Request}
+use Rattle.book_words.specs.declared.calls.JournalCall.{JournalCall}
+use Rattle.book_words.specs.declared.history.ClaimItem.{ClaimItem}
+use Rattle.book_words.specs.declared.requests.Request.{Request}
 use Rattle.plain_book.specs.Book.{call_of, reply_of}
-use Rattle.plain_book.specs.History.{claim_item}
+use Rattle.book_words.specs.History.{claim_item}
 use Rattle.plain_book.specs.Journal.{entries_of}
 use Rattle.plain_book.specs.Time.{tick_of_claim}
 use Rattle.plain_book.specs.Legal.{IsLegalJournal}

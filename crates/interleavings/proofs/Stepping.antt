@@ -18,9 +18,9 @@ use Rattle.map_entry.specs.Row.{channels_of}
 use Rattle.map_entry.specs.Setup.{IsSetup, SetupParts}
 use Rattle.packet_writer.specs.Heard.{HasFrames}
 use Rattle.plain_book.specs.Desk.{DeskParts, desk_parts}
-use Rattle.plain_book.specs.declared.history.History.{History}
-use Rattle.plain_book.specs.declared.history.ReplyItem.{ReplyItem}
-use Rattle.plain_book.specs.History.{AreInOrder, history_of, put}
+use Rattle.book_words.specs.declared.history.History.{History}
+use Rattle.book_words.specs.declared.history.ReplyItem.{ReplyItem}
+use Rattle.book_words.specs.History.{AreInOrder, history_of, put}
 use Rattle.plain_book.specs.Journal.{entries_of}
 use Rattle.plain_book.specs.Rows.{AreRows}
 use Rattle.plain_book.proofs.Keeping.{has_outputs}

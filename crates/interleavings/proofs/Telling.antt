@@ -5,16 +5,16 @@ use Rattle.std.specs.Prelude.{IfSome, ◌&&◌, cond, map, slice_get}
 use Rattle.std.specs.List.{AllByRecursion}
 use Rattle.std.proofs.lemmas.Bool.{cases_Bool, eqb-true}
 use Rattle.map_entry.specs.Setup.{SetupParts}
-use Rattle.plain_book.specs.declared.calls.JournalCall.{JournalCall}
-use Rattle.plain_book.specs.declared.given.Given.{Given}
-use Rattle.plain_book.specs.declared.history.ReplyItem.{ReplyItem}
-use Rattle.plain_book.specs.declared.history.Said.{Said}
-use Rattle.plain_book.specs.declared.replies.Reply.{Reply}
-use Rattle.plain_book.specs.declared.requests.Request.{Request}
-use Rattle.plain_book.specs.declared.requests.Stamp.{Stamp}
+use Rattle.book_words.specs.declared.calls.JournalCall.{JournalCall}
+use Rattle.book_words.specs.declared.given.Given.{Given}
+use Rattle.book_words.specs.declared.history.ReplyItem.{ReplyItem}
+use Rattle.book_words.specs.declared.history.Said.{Said}
+use Rattle.book_words.specs.declared.replies.Reply.{Reply}
+use Rattle.book_words.specs.declared.requests.Request.{Request}
+use Rattle.book_words.specs.declared.requests.Stamp.{Stamp}
 use Rattle.plain_book.specs.Book.{call_of}
 use Rattle.plain_book.specs.Given.{AreGiven, given_reply, replies_of}
-use Rattle.plain_book.specs.History.{AreInOrder, replies_to}
+use Rattle.book_words.specs.History.{AreInOrder, replies_to}
 use Rattle.plain_book.proofs.Giving.{given_up}
 use Rattle.plain_book.proofs.Ordering.{in_order_keeps}
 use Rattle.plain_book.proofs.Prefixes.{no_calls}

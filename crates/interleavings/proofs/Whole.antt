@@ -9,16 +9,16 @@ use Rattle.map_entry.specs.Setup.{SetupParts}
 use Rattle.packet_writer.specs.Flags.{Sights, is_there}
 use Rattle.packet_writer.specs.Packet.{Blocks}
 use Rattle.packet_writer.proofs.ClaimLaws.{closed_are_free}
-use Rattle.plain_book.specs.declared.calls.JournalCall.{JournalCall}
-use Rattle.plain_book.specs.declared.given.Given.{Given}
-use Rattle.plain_book.specs.declared.history.ClaimItem.{ClaimItem}
-use Rattle.plain_book.specs.declared.history.History.{History}
-use Rattle.plain_book.specs.declared.history.ReplyItem.{ReplyItem}
-use Rattle.plain_book.specs.declared.history.Said.{Said}
-use Rattle.plain_book.specs.declared.replies.Reply.{Reply}
-use Rattle.plain_book.specs.declared.requests.Request.{Request}
+use Rattle.book_words.specs.declared.calls.JournalCall.{JournalCall}
+use Rattle.book_words.specs.declared.given.Given.{Given}
+use Rattle.book_words.specs.declared.history.ClaimItem.{ClaimItem}
+use Rattle.book_words.specs.declared.history.History.{History}
+use Rattle.book_words.specs.declared.history.ReplyItem.{ReplyItem}
+use Rattle.book_words.specs.declared.history.Said.{Said}
+use Rattle.book_words.specs.declared.replies.Reply.{Reply}
+use Rattle.book_words.specs.declared.requests.Request.{Request}
 use Rattle.plain_book.specs.Given.{AreGiven, given_reply}
-use Rattle.plain_book.specs.History.{history_of, in_order}
+use Rattle.book_words.specs.History.{history_of, in_order}
 use Rattle.plain_book.specs.Journal.{entries_of}
 use Rattle.plain_book.proofs.Giving.{given_legal}
 use Rattle.plain_book.proofs.Prefixes.{no_calls}

@@ -13,12 +13,12 @@ use Rattle.map_entry.specs.Row.{channels_of}
 use Rattle.map_entry.specs.Setup.{IsSetup, SetupParts}
 use Rattle.packet_writer.specs.Heard.{HasFrames}
 use Rattle.packet_writer.specs.Packet.{Blocks, claim_rows}
-use Rattle.plain_book.specs.declared.history.ReplyItem.{ReplyItem}
-use Rattle.plain_book.specs.declared.history.Said.TheVariants.{Plain}
-use Rattle.plain_book.specs.declared.requests.Request.{Request}
+use Rattle.book_words.specs.declared.history.ReplyItem.{ReplyItem}
+use Rattle.book_words.specs.declared.history.Said.TheVariants.{Plain}
+use Rattle.book_words.specs.declared.requests.Request.{Request}
 use Rattle.plain_book.specs.Book.{call_of, reply_of}
 use Rattle.plain_book.specs.Desk.{DeskParts, desk_parts}
-use Rattle.plain_book.specs.History.{reply_item, stamp}
+use Rattle.book_words.specs.History.{reply_item, stamp}
 use Rattle.plain_book.specs.Time.{tick_of_claim}
 use Rattle.interleavings.specs.declared.events.Answer.{Answer}
 use Rattle.interleavings.specs.declared.events.Event.{Event}
@@ -66,7 +66,7 @@ plain_item d client request =
     reply_item client (stamp (length d.journal) d.claims)
     (Plain (reply_of d.setup d.journal d.claims request))
 
--- a book behind a client's request: with its call, where the book accepts one
+-- a book after a client's request: with its call, where the book accepts one
 abbrev pub desk_after : DeskParts → ℕ → Request → DeskParts
 desk_after d client request =
     let reply = reply_of d.setup d.journal d.claims request in
@@ -88,7 +88,7 @@ sight_in s taken worker =
       seen = map (sees s taken worker) (range_with_len 0 (length s.device.inputs));
     }
 
--- the same value so many times
+-- the same value a given number of times
 abbrev pub repeated : {A : Type 0} → A → ℕ → List A
 repeated value count = map (λ i. value) (range_with_len 0 count)
 

@@ -1,4 +1,4 @@
--- What a list of events with their answers tells, and what one more event is answered behind it.
+-- What a list of events with their answers tells, and what one more event is answered after it.
 -- (This project's own.)
 use Rattle.std.specs.Prelude.{◌≡◌, ℕ, ◌*◌, ◌&&◌, eqb, nat_lt, Bool, true, false, List, [], ◌∷◌}
 use Rattle.std.specs.Prelude.{◌++◌, length, Option, Some, None, ◌<◌, is_some, if◌then◌else◌}
@@ -8,10 +8,10 @@ use Rattle.std.specs.Option.{option_or, option_to_list}
 use Rattle.rtp_pcm.specs.Pcm.{IsSample}
 use Rattle.map_entry.specs.Row.{channels_of}
 use Rattle.map_entry.specs.Setup.{SetupParts}
-use Rattle.plain_book.specs.declared.calls.JournalCall.{JournalCall}
-use Rattle.plain_book.specs.declared.requests.Request.{Request}
+use Rattle.book_words.specs.declared.calls.JournalCall.{JournalCall}
+use Rattle.book_words.specs.declared.requests.Request.{Request}
 use Rattle.plain_book.specs.Book.{reply_of, call_of, first_some}
-use Rattle.plain_book.specs.History.{stamp}
+use Rattle.book_words.specs.History.{stamp}
 use Rattle.plain_book.specs.Time.{tick_of_claim}
 use Rattle.interleavings.specs.declared.events.Event.{Event}
 use Rattle.interleavings.specs.declared.events.Event.TheVariants.{Claim, Look, Set, Close, Call}
@@ -111,7 +111,7 @@ call_by s journal client request Closed = None
 call_by s journal client request (Replied reply stamp) =
     call_of s journal client stamp.claims request reply
 
--- the call that an event became by its answer, behind a journal, where it became one
+-- the call that an event became by its answer, after a journal, where it became one
 abbrev pub call_in : SetupParts → List JournalCall → Event → Answer → Option JournalCall
 call_in s journal (Claim worker) answer = None
 call_in s journal (Look worker input) answer = None
@@ -119,7 +119,7 @@ call_in s journal (Set input tick block) answer = None
 call_in s journal (Close input upto) answer = None
 call_in s journal (Call client request) answer = call_by s journal client request answer
 
--- a journal, and the calls that were accepted behind it
+-- a journal, and the calls that were accepted after it
 abbrev pub journal_from : SetupParts → List JournalCall → List Taken → List JournalCall
 journal_from s journal [] = journal
 journal_from s journal (t ∷ events) =
@@ -137,8 +137,8 @@ abbrev pub look_answer : SetupParts → List Taken → ℕ → Option ℕ → An
 look_answer s events input None = Nothing
 look_answer s events input (Some k) = Seen (is_some (block_in events input (tick_of_claim s k)))
 
--- What an event is answered behind these, in a session of so many ticks. A claim: how many were
--- made before, or `Over` where all packets are claimed. A look: whether the block is there, or
+-- What an event is answered after these, in a session of a given number of ticks. A claim: how many
+-- were made before, or `Over` where all packets are claimed. A look: whether the block is there, or
 -- `Nothing` where the worker has no claim. A set: `AlreadySet` where the block is there, else
 -- `Closed` where the tick is closed. A call: the one-thread book's reply at the calls and claims so
 -- far.
@@ -155,17 +155,17 @@ answer_of s ticks events (Call client request) =
     Replied (reply_of s (journal_in s events) (claims_in events) request)
     (stamp (length (journal_in s events)) (claims_in events))
 
--- an event with the answer that it is given behind these
+-- an event with the answer that it is given after these
 abbrev pub taken_by : SetupParts → ℕ → List Taken → Event → Taken
 taken_by s ticks events event = taken event (answer_of s ticks events event)
 
--- each event has the answer that it is given behind those before it
+-- each event has the answer that it is given after those before it
 abbrev pub IsRun : SetupParts → ℕ → List Taken → Type 0
 IsRun s ticks events =
     (k : ℕ) (t : Taken) → slice_get events k ≡ Some t
     → t.answer ≡ answer_of s ticks (take k events) t.event
 
--- these, and further events, each with the answer that it is given behind those before it
+-- these, and further events, each with the answer that it is given after those before it
 abbrev pub run_from : SetupParts → ℕ → List Taken → List Event → List Taken
 run_from s ticks before [] = before
 run_from s ticks before (event ∷ events) =

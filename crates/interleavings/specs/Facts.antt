@@ -1,5 +1,5 @@
 -- What running tables and their book leave once every job is back: facts on plain values, each told
--- by single calls or kept by a job. A session on tables that go on one behind the other, in laps,
+-- by single calls or kept by a job. A session on tables that go on one after the other, in laps,
 -- has one lap or more. (This project's own.)
 use Rattle.std.specs.Prelude.{◌≡◌, ℕ, ◌+◌, ◌*◌, ◌<◌, ◌≤◌, ◌==◌, nat_le, nat_lt, cond, Bool, true}
 use Rattle.std.specs.Prelude.{false, List, [], ◌∷◌, ◌++◌, length, filter, sum_by, All, Option, None}
@@ -13,14 +13,14 @@ use Rattle.map_entry.specs.Setup.{SetupParts}
 use Rattle.packet_writer.specs.Flags.{AreClosed, AreFree, Sights}
 use Rattle.packet_writer.specs.Heard.{sample_in}
 use Rattle.packet_writer.specs.Packet.{Blocks, packet_by, tick_of_claim}
-use Rattle.plain_book.specs.declared.calls.JournalCall.{JournalCall}
-use Rattle.plain_book.specs.declared.given.Given.{Given}
-use Rattle.plain_book.specs.declared.history.ClaimItem.{ClaimItem}
-use Rattle.plain_book.specs.declared.history.History.{History}
-use Rattle.plain_book.specs.declared.history.ReplyItem.{ReplyItem}
-use Rattle.plain_book.specs.declared.requests.Request.{Request}
+use Rattle.book_words.specs.declared.calls.JournalCall.{JournalCall}
+use Rattle.book_words.specs.declared.given.Given.{Given}
+use Rattle.book_words.specs.declared.history.ClaimItem.{ClaimItem}
+use Rattle.book_words.specs.declared.history.History.{History}
+use Rattle.book_words.specs.declared.history.ReplyItem.{ReplyItem}
+use Rattle.book_words.specs.declared.requests.Request.{Request}
 use Rattle.plain_book.specs.Given.{AreGiven, replies_of}
-use Rattle.plain_book.specs.History.{history_of, replies_to}
+use Rattle.book_words.specs.History.{history_of, replies_to}
 use Rattle.plain_book.specs.Journal.{entries_of}
 use Rattle.plain_book.specs.Rows.{SelectsAlike}
 use Rattle.interleavings.specs.Legal.{Form, IsLegalHistory, StandsThere, asks_itself, first_floor}
@@ -53,7 +53,7 @@ pub record Draw : Type 0 where
   pub number : ℕ
   pub found : List Entry
 
--- behind the entries that a draw found, the table's list has entries that count from ticks behind
+-- after the entries that a draw found, the table's list has entries that count from ticks after
 -- that of the draw alone
 pub record IsGood (s : SetupParts) (from packets : ℕ) (list : List Entry) (d : Draw) : Type 0 where
   pub rest : List Entry
@@ -72,9 +72,9 @@ times number draws = sum_by (is_at number) draws
 abbrev pub once_below : ℕ → ℕ → ℕ
 once_below number bound = cond (nat_le bound number) 0 1
 
--- All draws on a table whose list is this one, whose first claim is `from` and which is for so many
--- packets: each is good, each number below those drawn stands once among them, and no other; and
--- every packet was drawn.
+-- All draws on a table whose list is this one, whose first claim is `from` and which is for a given
+-- number of packets: each is good, each number below those drawn stands once among them, and no
+-- other; and every packet was drawn.
 pub record IsEnded (s : SetupParts) (from packets : ℕ) (list : List Entry) (draws : List Draw)
     : Type 0 where
   pub drawn : ℕ
@@ -110,8 +110,8 @@ pub record Agrees (d : DeviceParts) (looks : List Look) (heard : List Heard) (bl
       → IfSome (blocks input tick)
       (λ samples. length samples ≡ d.rate.frames * channels_of d.inputs input)
 
--- At so many ticks from a first one on, the blocks that were set are the inputs' as the way to
--- gather asks.
+-- At a given number of ticks from a first one on, the blocks that were set are the inputs' as the
+-- way to gather asks.
 abbrev pub IsFed : SetupParts → Gathering → ℕ → ℕ → Blocks → Blocks → Type 0
 IsFed s g first ticks set blocks =
     (input tick : ℕ) → input < length s.device.inputs → first ≤ tick → tick < first + ticks
@@ -144,7 +144,7 @@ pub record IsItem (s : SetupParts) (g : Gathering) (blocks : Blocks) (from : ℕ
   pub flags : form_by s g d.found blocks item.k item.found
   pub packet : item.packet ≡ packet_by s d.found blocks item.found item.k
 
--- whether a draw is one of so many packets
+-- whether a draw is one of a given number of packets
 abbrev pub is_packet : ℕ → Draw → Bool
 is_packet packets d = nat_lt d.number packets
 
@@ -185,9 +185,9 @@ pub record IsLap (s : SetupParts) (g : Gathering) (blocks : Blocks) (l : Lap) : 
   pub read : All (λ w. Agrees s.device w.looks w.heard set) l.workers
   pub fed : IsFed s g (s.device.base + l.before) l.ticks set blocks
 
--- Laps one behind the other, which lead from a number of claims and a journal to others: each
+-- Laps one after the other, which lead from a number of claims and a journal to others: each
 -- begins with a tick, at the claims so far; and its book goes on from the journal so far, with no
--- answer before the lap's first claim or behind its last.
+-- answer before the lap's first claim or after its last.
 abbrev pub AreLaps : SetupParts → Gathering → Blocks → ℕ → List JournalCall → List Lap → ℕ
     → List JournalCall → Type 0
 AreLaps s g blocks from journal [] claims last = (from ≡ claims) × (journal ≡ last)
@@ -246,8 +246,8 @@ AreAllSaid asks given items =
     (client : ℕ) → AreSaid (λ ask. ask.asked) (λ ask. ask.says) first_floor (asks client)
     (given_to client given) (replies_to client items)
 
--- there is a session of so many claims over blocks, which leaves these answers, this journal, and
--- no ask
+-- there is a session of a given number of claims over blocks, which leaves these answers, this
+-- journal, and no ask
 abbrev pub HasSession : SetupParts → Gathering → Blocks → ℕ → List Given → List JournalCall → Type 0
 HasSession s g blocks claims given journal =
     (laps : List Lap) × IsSession s g blocks claims (requests_of given) laps [] journal

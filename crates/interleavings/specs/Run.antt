@@ -7,13 +7,13 @@ use Rattle.std.specs.Option.{option_or}
 use Rattle.map_entry.specs.Setup.{SetupParts}
 use Rattle.packet_writer.specs.Flags.{Sights, names_by}
 use Rattle.packet_writer.specs.Packet.{Blocks}
-use Rattle.plain_book.specs.declared.calls.JournalCall.{JournalCall}
-use Rattle.plain_book.specs.declared.history.ClaimItem.{ClaimItem}
-use Rattle.plain_book.specs.declared.history.History.{History}
-use Rattle.plain_book.specs.declared.history.ReplyItem.{ReplyItem}
-use Rattle.plain_book.specs.declared.history.Said.TheVariants.{Plain}
-use Rattle.plain_book.specs.declared.requests.Request.{Request}
-use Rattle.plain_book.specs.History.{claim_item, history_of, in_order, reply_item}
+use Rattle.book_words.specs.declared.calls.JournalCall.{JournalCall}
+use Rattle.book_words.specs.declared.history.ClaimItem.{ClaimItem}
+use Rattle.book_words.specs.declared.history.History.{History}
+use Rattle.book_words.specs.declared.history.ReplyItem.{ReplyItem}
+use Rattle.book_words.specs.declared.history.Said.TheVariants.{Plain}
+use Rattle.book_words.specs.declared.requests.Request.{Request}
+use Rattle.book_words.specs.History.{claim_item, history_of, in_order, reply_item}
 use Rattle.plain_book.specs.Journal.{entries_of}
 use Rattle.plain_book.specs.Time.{tick_of_claim}
 use Rattle.interleavings.specs.declared.events.Event.{Event}
@@ -48,7 +48,7 @@ saw Closed = false
 saw (Replied reply stamp) = false
 
 -- whether a look of a worker with this latest claim is for claim k: it is at its tick, and before
--- the worker claims behind k
+-- the worker claims after k
 abbrev pub is_for : SetupParts → ℕ → Option ℕ → Bool
 is_for s k None = false
 is_for s k (Some j) = not (nat_lt k j) && eqb (tick_of_claim s j) (tick_of_claim s k)

@@ -6,18 +6,18 @@ use Rattle.std.specs.Option.{option_to_list}
 use Rattle.map_entry.specs.Setup.{SetupParts}
 use Rattle.packet_writer.specs.Flags.{closed_flags}
 use Rattle.packet_writer.specs.Packet.{Blocks}
-use Rattle.plain_book.specs.declared.calls.JournalCall.{JournalCall}
-use Rattle.plain_book.specs.declared.history.ClaimItem.{ClaimItem}
-use Rattle.plain_book.specs.declared.history.History.{History}
-use Rattle.plain_book.specs.declared.history.ReplyItem.{ReplyItem}
-use Rattle.plain_book.specs.declared.history.Said.TheVariants.{Plain}
-use Rattle.plain_book.specs.declared.requests.Request.{Request}
+use Rattle.book_words.specs.declared.calls.JournalCall.{JournalCall}
+use Rattle.book_words.specs.declared.history.ClaimItem.{ClaimItem}
+use Rattle.book_words.specs.declared.history.History.{History}
+use Rattle.book_words.specs.declared.history.ReplyItem.{ReplyItem}
+use Rattle.book_words.specs.declared.history.Said.TheVariants.{Plain}
+use Rattle.book_words.specs.declared.requests.Request.{Request}
 use Rattle.plain_book.specs.Book.{call_of, reply_of}
-use Rattle.plain_book.specs.History.{history_of, in_order, reply_item, stamp}
+use Rattle.book_words.specs.History.{history_of, in_order, reply_item, stamp}
 use Rattle.plain_book.specs.Journal.{entries_of}
 use Rattle.interleavings.specs.Run.{claim_with}
 
--- a step: so many claims, or a client's request
+-- a step: a given number of claims, or a client's request
 pub data SerialStep : Type 0 where
   Claims : ℕ → SerialStep
   Ask : ℕ → Request → SerialStep
@@ -28,11 +28,11 @@ pub record SerialParts : Type 0 where
   pub journal : List JournalCall
   pub given : List ReplyItem
 
--- so many claims, these calls, and these replies as they were given
+-- a given number of claims, these calls, and these replies as they were given
 abbrev pub serial_parts : ℕ → List JournalCall → List ReplyItem → SerialParts
 serial_parts claims journal given = record { claims = claims; journal = journal; given = given }
 
--- a step behind these: claims are made, or a request is answered by the book at the calls and
+-- a step after these: claims are made, or a request is answered by the book at the calls and
 -- claims so far
 abbrev pub serial_step : SetupParts → SerialParts → SerialStep → SerialParts
 serial_step s p (Claims count) = serial_parts (p.claims + count) p.journal p.given
@@ -42,7 +42,7 @@ serial_step s p (Ask client request) =
     (p.journal ++ option_to_list (call_of s p.journal client p.claims request reply))
     (p.given ++ reply_item client (stamp (length p.journal) p.claims) (Plain reply) ∷ [])
 
--- steps one behind the other
+-- steps one after the other
 abbrev pub serial_from : SetupParts → SerialParts → List SerialStep → SerialParts
 serial_from s p [] = p
 serial_from s p (step ∷ steps) = serial_from s (serial_step s p step) steps

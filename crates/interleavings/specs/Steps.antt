@@ -9,12 +9,12 @@ use Rattle.map_entry.specs.declared.entry.Entry.{Entry}
 use Rattle.map_entry.specs.Setup.{SetupParts}
 use Rattle.packet_writer.specs.Flags.{Sights, names_by}
 use Rattle.packet_writer.specs.Packet.{Blocks, flag_of, packet_by, tick_of_claim}
-use Rattle.plain_book.specs.declared.calls.JournalCall.{JournalCall}
-use Rattle.plain_book.specs.declared.given.Given.{Given}
-use Rattle.plain_book.specs.declared.history.ClaimItem.{ClaimItem}
-use Rattle.plain_book.specs.declared.history.History.{History}
+use Rattle.book_words.specs.declared.calls.JournalCall.{JournalCall}
+use Rattle.book_words.specs.declared.given.Given.{Given}
+use Rattle.book_words.specs.declared.history.ClaimItem.{ClaimItem}
+use Rattle.book_words.specs.declared.history.History.{History}
 use Rattle.plain_book.specs.Given.{replies_of}
-use Rattle.plain_book.specs.History.{history_of, put}
+use Rattle.book_words.specs.History.{history_of, put}
 use Rattle.interleavings.specs.Facts.{Agrees, Draw, Heard, IsGood, Lap, Look, Made, items_of}
 use Rattle.interleavings.specs.Facts.{once_below, times}
 
@@ -125,7 +125,7 @@ pub record HasOver (packets : ℕ) (draws : List Draw) : Type 0 where
 
 -- ---- parts of a history
 
--- Two parts joined: claims behind claims, calls behind calls, and the later replies put to the
+-- Two parts joined: claims after claims, calls after calls, and the later replies put to the
 -- earlier ones, since replies of both may stand at the same claims.
 abbrev pub parts_joined : History → History → History
 parts_joined a b =
@@ -135,7 +135,7 @@ parts_joined a b =
 abbrev pub all_joined : List History → History
 all_joined parts = fold parts_joined (history_of [] [] []) parts
 
--- A part between two journals: these claims in the order of their numbers, the calls behind the
+-- A part between two journals: these claims in the order of their numbers, the calls after the
 -- first journal, and the replies of these answers in order.
 pub record IsHistoryPart (before after : List JournalCall) (items : List ClaimItem)
     (given : List Given) (part : History) : Type 0 where

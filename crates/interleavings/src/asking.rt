@@ -4,7 +4,7 @@ ghost use Rattle.std.specs.Prelude.{◌≡◌, ◌≤◌, ◌+◌, ◌++◌, ◌
 ghost use Rattle.std.specs.Prelude.{OnOk, length, slice_get, take};
 ghost use Rattle.std.specs.List.{insert};
 ghost use Rattle.plain_book.specs.Book.{reply_of};
-ghost use Rattle.plain_book.specs.History.{AreInOrder, comes_before, put, stamp};
+ghost use Rattle.book_words.specs.History.{AreInOrder, comes_before, put, stamp};
 ghost use Rattle.interleavings.specs.Core.{IsCore, desk_after, next_answer, plain_item};
 ghost use Rattle.interleavings.specs.Events.{IsInRange};
 ghost use Rattle.interleavings.specs.Legal.{accepts};
@@ -18,7 +18,7 @@ use plain_book::{
 };
 use std::mem;
 
-/// A copy of a reply; want of memory is for replies alone that accept nothing.
+/// A copy of a reply. Memory runs out only for replies that accept nothing.
 fn copied(reply: &Reply) -> Result<Reply, NoMemory>
     ensures ok { IfOk result (λ made. made ≡ reply.now) }
     ensures err { OnErr result (accepts reply.now ≡ false) }
@@ -49,7 +49,7 @@ fn comes_before(a: &ReplyItem, b: &ReplyItem) -> bool
                 || (a.stamp.calls == b.stamp.calls && a.client < b.client)))
 }
 
-/// The place of a reply among those in order: behind all that may stand before it. The last ones
+/// The place of a reply among those in order: after all that may stand before it. The last ones
 /// are looked at first, since a reply is mostly the last.
 fn place(replies: &[ReplyItem], item: &ReplyItem) -> usize
     requires order { AreInOrder replies.now }
@@ -63,7 +63,7 @@ fn place(replies: &[ReplyItem], item: &ReplyItem) -> usize
     at
 }
 
-/// Asks the book. Want of memory leaves it as it was.
+/// Asks the book. If memory runs out, it stays as it was.
 fn ask(desk: &mut PlainDesk, client: u8, request: &Request) -> Result<(Reply, Stamp), NoMemory>
     ensures reply { IfOk result (λ r. r.0
         ≡ reply_of desk.old.setup desk.old.journal desk.old.claims request.now) }
@@ -74,7 +74,7 @@ fn ask(desk: &mut PlainDesk, client: u8, request: &Request) -> Result<(Reply, St
     desk.ask(client, request)
 }
 
-/// Asks the book, and puts the reply in its place. Want of memory leaves both as they were.
+/// Asks the book, and puts the reply in its place. If memory runs out, both stay as they were.
 fn answer(
     replies: &mut Vec<ReplyItem>,
     desk: &mut PlainDesk,
@@ -102,7 +102,7 @@ fn answer(
     }
 }
 
-/// Makes a journal whose last call is to be put right, or isn't there, that of the book.
+/// Makes a journal whose last call is to be put right, or is not there, that of the book.
 fn keep(journal: &mut Journal, asked: &[JournalCall], count: usize, request: Request)
     requires long { length journal.old ≡ count + 1 }
     requires few { length asked.now ≤ count + 1 }

@@ -20,7 +20,7 @@ pub(crate) type InputBlocks = BTreeMap<u64, Block>;
 /// The blocks of each input.
 pub(crate) type BlockTable = Vec<InputBlocks>;
 
-/// The table of so many inputs, with no block.
+/// The table of a given number of inputs, with no block.
 pub(crate) fn no_blocks(alloc: Global, inputs: u8) -> Result<BlockTable, NoMemory>
     ensures long { IfOk result (λ made. length made.items ≡ inputs) }
     ensures none { IfOk result (λ made. (input tick : ℕ) → set_at made.items input tick ≡ None) }
@@ -50,7 +50,7 @@ pub(crate) fn has_block(table: &[InputBlocks], input: u8, tick: u64) -> bool
     block_at(table, input, tick).is_some()
 }
 
-/// Puts the block of an input at a tick into the table. Want of memory leaves all blocks as they
+/// Puts the block of an input at a tick into the table. If memory runs out, all blocks stay as they
 /// were.
 pub(crate) fn put_block(
     table: &mut BlockTable,

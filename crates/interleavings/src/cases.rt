@@ -1,5 +1,5 @@
-//! What lists of events come to, made outside: `tools/core_cases.py` prints the table, and tells
-//! what the numbers mean.
+//! What lists of events come to, made outside: `tools/dev/core_cases.py` prints the table, and
+//! tells what the numbers mean.
 
 /// The number of each list of events, by its seed.
 pub(crate) const NUMBERS: [u32; 200] = [

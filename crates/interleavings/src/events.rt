@@ -77,9 +77,9 @@ fn has_shape(setup: &Setup, input: u8, block: &[i32]) -> bool
 }
 
 impl Event {
-    /// Whether a core of this setup and so many workers takes the event: its worker and its input
-    /// are there, and its block has a signed 24-bit sample for each channel of each frame of a
-    /// tick.
+    /// Whether a core of this setup and a given number of workers takes the event: its worker and
+    /// its input are there, and its block has a signed 24-bit sample for each channel of each frame
+    /// of a tick.
     pub fn is_in_range(&self, setup: &Setup, workers: u8) -> bool
         ensures { IsTrue result ↔ IsInRange setup.now workers self.now }
     {
@@ -96,7 +96,7 @@ impl Event {
     }
 }
 
-/// Whether a core of this setup and so many workers takes these events.
+/// Whether a core of this setup and a given number of workers takes these events.
 pub fn are_in_range(setup: &Setup, workers: u8, events: &Events) -> bool
     ensures { IsTrue result ↔ All (IsInRange setup.now workers) events.now }
 {

@@ -6,7 +6,7 @@ use map_entry::Setup;
 use plain_book::{History, PlainDesk};
 use std::alloc::Global;
 
-/// What a core is made for: a setup, so many ticks, and so many workers.
+/// What a core is made for: a setup, a given number of ticks, and a given number of workers.
 #[derive(Drop)]
 pub(crate) struct Session {
     pub alloc: Global,

@@ -10,14 +10,14 @@ ghost use Rattle.map_entry.specs.declared.entry.Entry.{Entry};
 ghost use Rattle.map_entry.specs.Setup.{SetupParts};
 ghost use Rattle.packet_writer.specs.Flags.{Sights};
 ghost use Rattle.packet_writer.specs.Packet.{Blocks};
-ghost use Rattle.plain_book.specs.declared.calls.JournalCall.{JournalCall};
-ghost use Rattle.plain_book.specs.declared.given.Given.{Given};
-ghost use Rattle.plain_book.specs.declared.history.ClaimItem.{ClaimItem};
-ghost use Rattle.plain_book.specs.declared.history.History.{History};
-ghost use Rattle.plain_book.specs.declared.history.ReplyItem.{ReplyItem};
-ghost use Rattle.plain_book.specs.declared.requests.Request.{Request};
+ghost use Rattle.book_words.specs.declared.calls.JournalCall.{JournalCall};
+ghost use Rattle.book_words.specs.declared.given.Given.{Given};
+ghost use Rattle.book_words.specs.declared.history.ClaimItem.{ClaimItem};
+ghost use Rattle.book_words.specs.declared.history.History.{History};
+ghost use Rattle.book_words.specs.declared.history.ReplyItem.{ReplyItem};
+ghost use Rattle.book_words.specs.declared.requests.Request.{Request};
 ghost use Rattle.plain_book.specs.Given.{AreGiven};
-ghost use Rattle.plain_book.specs.History.{AreInOrder, history_of};
+ghost use Rattle.book_words.specs.History.{AreInOrder, history_of};
 ghost use Rattle.interleavings.specs.Facts.{Agrees, AreAllSaid, Draw, Gathering, Heard, Lap, Look};
 ghost use Rattle.interleavings.specs.Facts.{HasSession, IsEnded, IsItem, IsLegalBy, IsSession};
 ghost use Rattle.interleavings.specs.Facts.{IsToldBy, IsWorked, Made};
@@ -111,7 +111,7 @@ pub fn tables_end()
 {}
 
 /// For any answers of a book there is a session that leaves just these, in closed form over no
-/// blocks and in free form over any: what is said of sessions isn't said of nothing.
+/// blocks and in free form over any: what is said of sessions is not said of nothing.
 pub fn sessions_can_be()
     ensures closed { (s : SetupParts) (ticks : ℕ) (given : List Given)
         (journal : List JournalCall)

@@ -62,7 +62,7 @@ fn advance(
 }
 
 impl Core {
-    /// The core of a session of so many ticks and workers, to which nothing has happened.
+    /// The core of a session of a given number of ticks and workers, to which nothing has happened.
     pub fn new(alloc: Global, setup: &Setup, ticks: u64, workers: u8) -> Result<Core, NoMemory>
         requires { ticks ≤ SESSION_TICKS }
         ensures value { IfOk result (λ made. made ≡ core_parts setup.now ticks workers []) }
@@ -82,7 +82,7 @@ impl Core {
         })
     }
 
-    /// Answers an event, and keeps it. Want of memory leaves the core as it was.
+    /// Answers an event, and keeps it. If memory runs out, the core stays as it was.
     pub fn step(&mut self, event: &Event) -> Result<Answer, NoMemory>
         requires { IsInRange self.old.setup self.old.workers event.now }
         ensures answer { IfOk result (λ a. a

@@ -3,7 +3,7 @@
 ghost use Rattle.std.specs.Prelude.{◌≡◌, ◌≤◌, [], IfOk, map, false};
 ghost use Rattle.std.specs.List.{range_with_len};
 ghost use Rattle.io_caps.specs.declared.limits.TheConstants.{SESSION_TICKS};
-ghost use Rattle.plain_book.specs.History.{history_of};
+ghost use Rattle.book_words.specs.History.{history_of};
 ghost use Rattle.interleavings.specs.Core.{IsCore, no_sight, repeated};
 
 use crate::blocks::no_blocks;
@@ -12,7 +12,7 @@ use io_caps::{Flags, ListOf, NoMemory};
 use plain_book::{ClaimItems, History, Journal, PlainDesk, ReplyItems};
 use std::alloc::Global;
 
-/// No flag of so many inputs.
+/// No flag of a given number of inputs.
 pub(crate) fn no_flags(alloc: Global, inputs: u8) -> Result<Flags, NoMemory>
     ensures { IfOk result (λ made. made ≡ repeated false inputs) }
 {
@@ -23,7 +23,7 @@ pub(crate) fn no_flags(alloc: Global, inputs: u8) -> Result<Flags, NoMemory>
     Ok(made)
 }
 
-/// The closings of so many inputs of which no tick is closed.
+/// The closings of a given number of inputs of which no tick is closed.
 fn no_closings(alloc: Global, inputs: u8) -> Result<ListOf<u64>, NoMemory>
     ensures { IfOk result (λ made. made ≡ repeated 0 inputs) }
 {
@@ -44,7 +44,7 @@ fn no_sight(alloc: Global, inputs: u8) -> Result<Sight, NoMemory>
     })
 }
 
-/// The sights of so many workers without a claim.
+/// The sights of a given number of workers without a claim.
 fn no_sights(alloc: Global, inputs: u8, workers: u8) -> Result<ListOf<Sight>, NoMemory>
     ensures { IfOk result (λ made. made ≡ repeated (no_sight inputs) workers) }
 {

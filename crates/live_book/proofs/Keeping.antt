@@ -7,10 +7,10 @@ use Rattle.claim_rule.specs.Claims.{claims_at}
 use Rattle.claim_rule.specs.Views.{note, noted}
 use Rattle.claim_rule.specs.declared.view.Sight.{Sight}
 use Rattle.claim_word.specs.Faces.{ClientFace, IsPublisherOf, TableFace}
-use Rattle.plain_book.specs.declared.calls.JournalCall.{JournalCall}
-use Rattle.plain_book.specs.declared.replies.Reply.{Reply}
-use Rattle.plain_book.specs.declared.requests.Request.{Request}
-use Rattle.plain_book.specs.declared.requests.Stamp.{Stamp}
+use Rattle.book_words.specs.declared.calls.JournalCall.{JournalCall}
+use Rattle.book_words.specs.declared.replies.Reply.{Reply}
+use Rattle.book_words.specs.declared.requests.Request.{Request}
+use Rattle.book_words.specs.declared.requests.Stamp.{Stamp}
 use Rattle.plain_book.specs.Desk.{KeptParts}
 use Rattle.plain_book.specs.Rows.{SelectsAlike}
 use Rattle.plain_book.specs.Given.{AreGiven}

@@ -1,4 +1,4 @@
--- What tries without an answer leave, and what one with an answer tells behind them.
+-- What tries without an answer leave, and what one with an answer tells after them.
 use Rattle.std.proofs.Common.{◌≡◌, ℕ, ◌+◌, ◌*◌, ◌≤◌, List, [], ◌∷◌, ◌++◌, length, refl, sym}
 use Rattle.std.proofs.Common.{ap, ◌∙◌, subst, arith, append_assoc, length-append}
 use Rattle.std.proofs.lemmas.List.{append-nil}
@@ -11,11 +11,11 @@ use Rattle.claim_rule.specs.declared.view.View.{View}
 use Rattle.claim_rule.specs.Claims.{claims_at}
 use Rattle.claim_rule.specs.Views.{note, noted, sight}
 use Rattle.claim_word.specs.Faces.{ClientFace, IsClientOf, IsPublisherOf, PublisherFace, TableFace}
-use Rattle.plain_book.specs.declared.calls.JournalCall.{JournalCall}
-use Rattle.plain_book.specs.declared.given.Given.{Given}
-use Rattle.plain_book.specs.declared.replies.Reply.{Reply}
-use Rattle.plain_book.specs.declared.requests.Request.{Request}
-use Rattle.plain_book.specs.declared.requests.Stamp.{Stamp}
+use Rattle.book_words.specs.declared.calls.JournalCall.{JournalCall}
+use Rattle.book_words.specs.declared.given.Given.{Given}
+use Rattle.book_words.specs.declared.replies.Reply.{Reply}
+use Rattle.book_words.specs.declared.requests.Request.{Request}
+use Rattle.book_words.specs.declared.requests.Stamp.{Stamp}
 use Rattle.plain_book.specs.Desk.{IsAsked}
 use Rattle.live_book.specs.Books.{BookFace, last_raw}
 use Rattle.live_book.specs.Lent.{HeardMore, IsFewLoads}
@@ -57,7 +57,7 @@ trying_new t b p of of_pass = record {
   few = omega arith;
 }
 
--- ---- one try behind another
+-- ---- one try after another
 
 pub goes_since : (b c d : BookFace) → GoesOn b c → GoesOn c d → GoesOn b d
 goes_since b c d one two = record {
@@ -117,7 +117,7 @@ trying_more t b c d p q r n claims trying of of_pass same goes_on heard moved =
       few = omega (arith, most, moved.later, moved.above, trying.passed);
     }
 
--- ---- an answer behind tries
+-- ---- an answer after tries
 
 pub asked_since : (b c d : BookFace) (client : ℕ) (request : Request) (reply : Reply)
     (stamp : Stamp) → GoesOn b c → IsSame b c

@@ -15,16 +15,16 @@ use Rattle.claim_rule.specs.Claims.{claims_at}
 use Rattle.claim_rule.specs.Views.{IsSight, sight}
 use Rattle.claim_word.specs.declared.state.State.{State}
 use Rattle.claim_word.specs.States.{IsMissed, IsPublished, IsState, having_seen}
-use Rattle.plain_book.specs.declared.calls.JournalCall.{JournalCall}
-use Rattle.plain_book.specs.declared.given.Given.{Given}
+use Rattle.book_words.specs.declared.calls.JournalCall.{JournalCall}
+use Rattle.book_words.specs.declared.given.Given.{Given}
 use Rattle.plain_book.specs.declared.kept.Decided.{Decided}
 use Rattle.plain_book.specs.declared.kept.Made.{Made}
-use Rattle.plain_book.specs.declared.requests.Request.{Request}
+use Rattle.book_words.specs.declared.requests.Request.{Request}
 use Rattle.plain_book.specs.Book.{call_of, reply_of}
 use Rattle.plain_book.specs.Desk.{IsAsked, IsDecided, IsDesk, IsMade, KeptParts, looked_at, settled}
 use Rattle.plain_book.specs.Desk.{staged}
 use Rattle.plain_book.specs.Given.{AreGiven, given_item}
-use Rattle.plain_book.specs.History.{stamp}
+use Rattle.book_words.specs.History.{stamp}
 use Rattle.plain_book.specs.Journal.{call_entries, entries_of}
 use Rattle.plain_book.specs.Legal.{IsLegalJournal}
 use Rattle.plain_book.specs.Time.{begin}

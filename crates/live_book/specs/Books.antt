@@ -5,8 +5,8 @@ use Rattle.claim_rule.specs.declared.view.Sight.{Sight}
 use Rattle.claim_rule.specs.declared.view.View.{View}
 use Rattle.claim_rule.specs.Claims.{claims_at}
 use Rattle.claim_word.specs.Faces.{PublisherFace}
-use Rattle.plain_book.specs.declared.calls.JournalCall.{JournalCall}
-use Rattle.plain_book.specs.declared.given.Given.{Given}
+use Rattle.book_words.specs.declared.calls.JournalCall.{JournalCall}
+use Rattle.book_words.specs.declared.given.Given.{Given}
 use Rattle.plain_book.specs.Desk.{IsDesk, KeptParts}
 use Rattle.plain_book.specs.Given.{AreGiven}
 use Rattle.plain_book.specs.Legal.{IsLegalJournal}
@@ -35,7 +35,7 @@ high v = claims_at v.plan (last_raw v.sights)
 
 -- A book that keeps to its table. At the claims that its publisher saw last it is the one-thread
 -- book's over the table's entries, which select what the journal's do from the table's first claim
--- on; and its answers are the one-thread book's, one behind the other, from no call on.
+-- on; and its answers are the one-thread book's, one after the other, from no call on.
 pub record IsBook (s : SetupParts) (v : View) (p : KeptParts) (given : List Given) : Type 0 where
   pub setup_is : v.plan.setup ≡ s
   pub from_is : p.from ≡ v.plan.from
@@ -43,7 +43,7 @@ pub record IsBook (s : SetupParts) (v : View) (p : KeptParts) (given : List Give
   pub given_are : AreGiven s [] 0 given p.journal (high v)
 
 -- What holds of each book: its publisher is of a table of its setup, whose entries select what the
--- journal's do from the table's first claim on; its answers are the one-thread book's, one behind
+-- journal's do from the table's first claim on; its answers are the one-thread book's, one after
 -- the other, up to the claims that its publisher saw last; and they have made a legal journal.
 pub record Agrees (b : BookFace) : Type 0 where
   pub setup_is : b.publisher.view.plan.setup ≡ b.setup

@@ -9,11 +9,11 @@ use Rattle.claim_rule.specs.declared.view.View.{View}
 use Rattle.claim_rule.specs.Claims.{claims_at}
 use Rattle.claim_rule.specs.Views.{sight}
 use Rattle.claim_word.specs.States.{IsMissed}
-use Rattle.plain_book.specs.declared.calls.JournalCall.{JournalCall}
-use Rattle.plain_book.specs.declared.given.Given.{Given}
-use Rattle.plain_book.specs.declared.replies.Reply.{Reply}
-use Rattle.plain_book.specs.declared.requests.Request.{Request}
-use Rattle.plain_book.specs.declared.requests.Stamp.{Stamp}
+use Rattle.book_words.specs.declared.calls.JournalCall.{JournalCall}
+use Rattle.book_words.specs.declared.given.Given.{Given}
+use Rattle.book_words.specs.declared.replies.Reply.{Reply}
+use Rattle.book_words.specs.declared.requests.Request.{Request}
+use Rattle.book_words.specs.declared.requests.Stamp.{Stamp}
 use Rattle.plain_book.specs.Book.{call_of}
 use Rattle.plain_book.specs.Desk.{IsAsked}
 use Rattle.plain_book.specs.Given.{given_item}
@@ -22,7 +22,7 @@ use Rattle.live_book.specs.declared.attempt.Under.{Under}
 use Rattle.live_book.specs.declared.attempt.Under.TheVariants.{Moved, NoMemory}
 use Rattle.live_book.specs.Books.{BookFace, last_raw}
 
--- the entries of the call that an answer makes, behind those of the calls before, and none where it
+-- the entries of the call that an answer makes, after those of the calls before, and none where it
 -- makes no call
 abbrev pub answer_entries : SetupParts → List JournalCall → ℕ → ℕ → Request → Reply → List Entry
 answer_entries s before client claims request reply =
@@ -44,13 +44,13 @@ pub record IsLoadedLast (v w : View) (claims : ℕ) : Type 0 where
   pub sights : w.sights ≡ v.sights ++ (earlier ++ sight raw (length v.entries) ∷ [])
   pub claims_is : claims ≡ claims_at v.plan raw
 
--- the claims at each of these states are at most so many
+-- the claims at each of these states are at most a given number
 abbrev pub AreBelow : Plan → ℕ → List Sight → Type 0
 AreBelow plan claims sights = All (λ seen. claims_at plan seen.raw ≤ claims) sights
 
 -- A number was drawn between a load and the exchange that failed: the state that this found is
--- above the one loaded, and so many claims belong to it. So a table answers at most so often thus
--- as it has packets and workers.
+-- above the one loaded, and this number of claims belongs to it. So a table answers thus at most as
+-- often as it has packets and workers.
 pub record IsMoved (v w : View) (claims : ℕ) : Type 0 where
   pub first : ℕ
   pub raw : ℕ
@@ -62,15 +62,15 @@ pub record IsMoved (v w : View) (claims : ℕ) : Type 0 where
       w.sights
       ≡ v.sights ++ sight first (length v.entries) ∷ sight raw (length v.entries) ∷ []
 
--- why there was no answer: an exchange failed, or there was no memory behind the load
+-- why there was no answer: an exchange failed, or there was no memory after the load
 abbrev pub IsUnder : View → View → Under → Type 0
 IsUnder v w (Moved claims) = IsMoved v w claims
 IsUnder v w NoMemory = (seen : Sight) × (w.sights ≡ v.sights ++ seen ∷ [])
 
 -- ---- its parts, over what a publisher's view is before and after
 
--- An answer: the one-thread book's at the claims of one load, kept behind the others; and the
--- entries of the call that it makes stand behind the others. The claims are those of no state below
+-- An answer: the one-thread book's at the claims of one load, kept after the others; and the
+-- entries of the call that it makes follow the others. The claims are those of no state below
 -- one that was seen or told before.
 pub record IsTry (s : SetupParts) (v w : View) (before after : List JournalCall)
     (old new : List Given) (client : ℕ) (request : Request) (reply : Reply)
@@ -88,7 +88,7 @@ pub record IsStill (v w : View) (before after : List JournalCall)
   pub journal : after ≡ before
   pub given : new ≡ old
 
--- an exchange failed that expected so many draws
+-- an exchange failed that expected a given number of draws
 pub record IsMissedAt (v w : View) (first claims : ℕ) : Type 0 where
   pub raw : ℕ
   pub above : first < raw

@@ -20,7 +20,7 @@ use std::alloc::Global;
 /// Why a try gave no answer.
 #[derive(Clone, Copy, Debug, PartialEq, Eq)]
 pub enum Under {
-    /// A number was drawn between its load and its exchange. So many claims were made by then.
+    /// A number was drawn between its load and its exchange. This many claims were made by then.
     Moved { claims: u64 },
     NoMemory,
 }
@@ -47,7 +47,7 @@ fn note(
     })
 }
 
-/// Puts a call behind the others and publishes its entries by one exchange, unless a number was
+/// Puts a call after the others and publishes its entries by one exchange, unless a number was
 /// drawn since the state was seen. Then the call is taken back.
 fn publish(
     table: &ClaimTable,

@@ -13,7 +13,7 @@ use claim_word::{ClaimTable, ClientPass};
 use io_caps::NoMemory;
 use plain_book::{Desk, Reply, Request, Stamp};
 
-/// Tries to answer a client's request until it is answered, on the book that is lent: again behind
+/// Tries to answer a client's request until it is answered, on the book that is lent: again after
 /// each exchange that failed, which is at most as often as the table has packets and workers.
 fn answer_lent(
     book: &mut Book,

@@ -23,7 +23,7 @@ use std::marker::{Brand, Model, PhantomData};
 pub trait Named {
     ghost use Rattle.std.specs.Prelude.{ℕ, List};
     ghost use Rattle.claim_word.specs.Faces.{TableFace};
-    ghost use Rattle.plain_book.specs.declared.requests.Request.{Request};
+    ghost use Rattle.book_words.specs.declared.requests.Request.{Request};
     ghost use Rattle.live_book.specs.Books.{BookFace};
 
     ghost table: { TableFace };
@@ -167,7 +167,7 @@ impl<N: Named> Shared<N> {
 
     /// Answers the first request that a client still asks, through a desk that is lent the book,
     /// and takes it off. False comes exactly where the client asks nothing more; then nothing
-    /// changes. Want of memory leaves entries, calls, answers and what is asked as they were.
+    /// changes. If memory runs out, entries, calls, answers and what is asked stay as they were.
     pub fn answer_next(
         &mut self,
         pass: &mut ClientPass,

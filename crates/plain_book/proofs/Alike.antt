@@ -21,11 +21,11 @@ use Rattle.plain_book.specs.Full.{full_from, places_each}
 use Rattle.plain_book.specs.Journal.{call_entries, change_entry, entries_of, kept_entry, row_from}
 use Rattle.plain_book.specs.Rows.{SelectsAlike}
 use Rattle.plain_book.specs.Time.{begin}
-use Rattle.plain_book.specs.declared.calls.JournalCall.{JournalCall}
-use Rattle.plain_book.specs.declared.replies.PendingItem.{PendingItem}
-use Rattle.plain_book.specs.declared.replies.Refusal.TheVariants.{Unknown, Row}
-use Rattle.plain_book.specs.declared.replies.Refusal.{Refusal}
-use Rattle.plain_book.specs.declared.requests.When.{When}
+use Rattle.book_words.specs.declared.calls.JournalCall.{JournalCall}
+use Rattle.book_words.specs.declared.replies.PendingItem.{PendingItem}
+use Rattle.book_words.specs.declared.replies.Refusal.TheVariants.{Unknown, Row}
+use Rattle.book_words.specs.declared.replies.Refusal.{Refusal}
+use Rattle.book_words.specs.declared.requests.When.{When}
 use Rattle.plain_book.proofs.Entries.{entries_more}
 use Rattle.plain_book.proofs.Waiting.{HasOutputs, begin_rises}
 

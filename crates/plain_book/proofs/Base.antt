@@ -16,9 +16,9 @@ use Rattle.plain_book.specs.Desk.{IsDesk, KeptParts, is_above, latest_item, look
 use Rattle.plain_book.specs.Desk.{from_claims}
 use Rattle.plain_book.specs.Journal.{base_entries, base_entry, entries_of}
 use Rattle.plain_book.specs.Pending.{pending_of}
-use Rattle.plain_book.specs.Replies.{item_of}
+use Rattle.book_words.specs.Replies.{item_of}
 use Rattle.plain_book.specs.Time.{begin}
-use Rattle.plain_book.specs.declared.replies.PendingItem.{PendingItem}
+use Rattle.book_words.specs.declared.replies.PendingItem.{PendingItem}
 use Rattle.plain_book.proofs.Entries.{entries_none}
 use Rattle.plain_book.proofs.Keeping.{has_outputs, legal_at, since_at}
 use Rattle.plain_book.proofs.Looking.{last_later, still_pending}

@@ -17,17 +17,17 @@ use Rattle.map_entry.specs.Setup.{IsSetup, SetupParts}
 use Rattle.map_entry.specs.declared.cell.Cell.{Cell}
 use Rattle.map_entry.specs.declared.entry.Entry.{Entry}
 use Rattle.map_entry.proofs.Selection.{selected-append}
-use Rattle.plain_book.specs.Calls.{action_of, call_due, deletes, is_activation, names_output}
+use Rattle.book_words.specs.Calls.{action_of, call_due, deletes, is_activation, names_output}
 use Rattle.plain_book.specs.Carry.{carried, carried_row, entries_where}
 use Rattle.plain_book.specs.Journal.{call_entries, change_entry, entries_of, kept_entry}
 use Rattle.plain_book.specs.Journal.{request_entries, row_from}
 use Rattle.plain_book.specs.Legal.{IsAccepted, IsLegalJournal}
 use Rattle.plain_book.specs.Pending.{is_deleted, is_locked, is_pending, later, pending_of}
 use Rattle.plain_book.specs.Time.{begin}
-use Rattle.plain_book.specs.declared.calls.JournalCall.{JournalCall}
-use Rattle.plain_book.specs.declared.requests.Request.TheVariants.{Activate, Delete, Active}
-use Rattle.plain_book.specs.declared.requests.Request.TheVariants.{Pending}
-use Rattle.plain_book.specs.declared.requests.Request.{Request}
+use Rattle.book_words.specs.declared.calls.JournalCall.{JournalCall}
+use Rattle.book_words.specs.declared.requests.Request.TheVariants.{Activate, Delete, Active}
+use Rattle.book_words.specs.declared.requests.Request.TheVariants.{Pending}
+use Rattle.book_words.specs.declared.requests.Request.{Request}
 use Rattle.plain_book.proofs.Accepted.{IsDeletion, cases}
 use Rattle.plain_book.proofs.Entries.{entries_more}
 use Rattle.plain_book.proofs.Lists.{IsIn, any_from, from_filter, in_last, in_left, in_more}
@@ -128,7 +128,7 @@ made_none s keep before call o t none = elim (cases_Bool (keep call)) [
   | inr out ↦ rw out refl
 ]
 
--- of calls that count later, or don't name the output, nothing is selected
+-- of calls that count later, or do not name the output, nothing is selected
 none_due : (s : SetupParts) (keep : JournalCall → Bool) (o t : ℕ) (before calls : List JournalCall)
     → ((x : JournalCall) → IsIn x calls → keep x ≡ true → is_activation x.request ≡ true)
     → ((x : JournalCall) → IsIn x calls → keep x ≡ true → names_output o x.request ≡ true
@@ -156,7 +156,7 @@ Rules s journal =
     → call_due p ≤ t
     → selected (entries_where s keep [] journal) o t ≡ selected (entries_of s journal) o t
 
--- a deletion behind a pending call that stays pending doesn't take back an output of it
+-- a deletion after a pending call that stays pending does not take back an output of it
 deletion_out : (s : SetupParts) (before : List JournalCall) (call : JournalCall) (id : ℕ)
     (found : JournalCall) (c o t : ℕ) (p : JournalCall) → HasOutputs s
     → IsLegalJournal s call.at before → IsDeletion s before call id found → call.at ≤ c
@@ -304,8 +304,8 @@ rows_alone s journal c o t lt since none there =
     ∙ range_row s journal c o t 0 (length s.device.outputs) (omega arith) (omega (arith, lt)) since
     ∙ some_is (selected (entries_of s journal) o (begin s c)) [] there
 
--- THE LAW: what a new table starts from at so many claims selects, from the first moment that has
--- not begun on, what the journal's entries select
+-- THE LAW: what a new table starts from at a number of claims selects, from the first moment that
+-- has not begun on, what the journal's entries select
 pub carried_rules : (s : SetupParts) (c : ℕ) (journal : List JournalCall) (o t : ℕ) → IsSetup s
     → HasOutputs s → IsLegalJournal s c journal → o < length s.device.outputs → begin s c ≤ t
     → selected (carried s journal c) o t ≡ selected (entries_of s journal) o t

@@ -14,21 +14,21 @@ use Rattle.map_entry.specs.Entry.{IsEntryOk, due}
 use Rattle.map_entry.specs.Setup.{SetupParts}
 use Rattle.map_entry.specs.declared.entry.Entry.{Entry}
 use Rattle.plain_book.specs.Book.{call_of, deletion, reply_of, unknown_by}
-use Rattle.plain_book.specs.Calls.{action_of, is_activation, journal_call}
+use Rattle.book_words.specs.Calls.{action_of, is_activation, journal_call}
 use Rattle.plain_book.specs.Desk.{IsDecided, IsDesk, KeptParts, item_at, places_kept, settled}
 use Rattle.plain_book.specs.Desk.{staged, taken_by}
 use Rattle.plain_book.specs.Full.{places_of, places_used}
 use Rattle.plain_book.specs.Journal.{call_entries, entries_of, kept_entry}
 use Rattle.plain_book.specs.Legal.{IsAccepted, IsLegalJournal}
 use Rattle.plain_book.specs.Pending.{is_pending, next_id, pending_call, pending_of}
-use Rattle.plain_book.specs.Replies.{item_of, shown}
+use Rattle.book_words.specs.Replies.{item_of, shown}
 use Rattle.plain_book.specs.Time.{begin}
-use Rattle.plain_book.specs.declared.calls.JournalCall.{JournalCall}
-use Rattle.plain_book.specs.declared.replies.PendingItem.{PendingItem}
-use Rattle.plain_book.specs.declared.replies.Refusal.TheVariants.{NotPending}
-use Rattle.plain_book.specs.declared.replies.Reply.TheVariants.{Deleted, Refused}
-use Rattle.plain_book.specs.declared.requests.Request.TheVariants.{Delete}
-use Rattle.plain_book.specs.declared.requests.Request.{Request}
+use Rattle.book_words.specs.declared.calls.JournalCall.{JournalCall}
+use Rattle.book_words.specs.declared.replies.PendingItem.{PendingItem}
+use Rattle.book_words.specs.declared.replies.Refusal.TheVariants.{NotPending}
+use Rattle.book_words.specs.declared.replies.Reply.TheVariants.{Deleted, Refused}
+use Rattle.book_words.specs.declared.requests.Request.TheVariants.{Delete}
+use Rattle.book_words.specs.declared.requests.Request.{Request}
 use Rattle.plain_book.proofs.Alike.{all_more, alike_more, kept_alike, moved}
 use Rattle.plain_book.proofs.Commits.{gone_last, gone_pending, legal_more}
 use Rattle.plain_book.proofs.Keeping.{has_outputs, at_seen, last_at, last_seen, legal_at}

@@ -14,23 +14,23 @@ use Rattle.map_entry.specs.Entry.{IsEntryOk, due}
 use Rattle.map_entry.specs.Setup.{IsSetup, SetupParts}
 use Rattle.map_entry.specs.declared.entry.Entry.{Entry}
 use Rattle.plain_book.specs.Book.{call_of, landing_tick, refusal_of, reply_of}
-use Rattle.plain_book.specs.Calls.{is_activation, is_later, journal_call}
+use Rattle.book_words.specs.Calls.{is_activation, is_later, journal_call}
 use Rattle.plain_book.specs.Desk.{IsDesk, KeptParts, item_above, last_behind, places_kept}
 use Rattle.plain_book.specs.Full.{places_each, places_of, places_used}
 use Rattle.plain_book.specs.Journal.{call_entries, change_entry, entries_of}
 use Rattle.plain_book.specs.Legal.{IsAccepted, IsLegalJournal}
 use Rattle.plain_book.specs.Pending.{is_deleted, last_of, next_id, pending_of}
-use Rattle.plain_book.specs.Replies.{accepted, item_of, shown}
+use Rattle.book_words.specs.Replies.{accepted, item_of, shown}
 use Rattle.plain_book.specs.Rows.{AreEntries}
 use Rattle.plain_book.specs.Time.{begin}
-use Rattle.plain_book.specs.declared.calls.JournalCall.{JournalCall}
-use Rattle.plain_book.specs.declared.replies.PendingItem.{PendingItem}
-use Rattle.plain_book.specs.declared.replies.Refusal.{Refusal}
-use Rattle.plain_book.specs.declared.replies.Reply.TheVariants.{Refused}
-use Rattle.plain_book.specs.declared.requests.Request.TheVariants.{Activate}
-use Rattle.plain_book.specs.declared.requests.Request.{Request}
-use Rattle.plain_book.specs.declared.requests.When.TheVariants.{Now, At, After}
-use Rattle.plain_book.specs.declared.requests.When.{When}
+use Rattle.book_words.specs.declared.calls.JournalCall.{JournalCall}
+use Rattle.book_words.specs.declared.replies.PendingItem.{PendingItem}
+use Rattle.book_words.specs.declared.replies.Refusal.{Refusal}
+use Rattle.book_words.specs.declared.replies.Reply.TheVariants.{Refused}
+use Rattle.book_words.specs.declared.requests.Request.TheVariants.{Activate}
+use Rattle.book_words.specs.declared.requests.Request.{Request}
+use Rattle.book_words.specs.declared.requests.When.TheVariants.{Now, At, After}
+use Rattle.book_words.specs.declared.requests.When.{When}
 use Rattle.plain_book.proofs.Accepted.{called}
 use Rattle.plain_book.proofs.Alike.{all_more, alike_more, changes_alike, moved}
 use Rattle.plain_book.proofs.Commits.{legal_later, legal_more, new_last, new_pending, now_low}

@@ -17,6 +17,7 @@ pub mod Pruning
 pub mod Publishing
 pub mod Reading
 pub mod Refusing
+pub mod Sorting
 pub mod Sound
 pub mod Steady
 pub mod Timing

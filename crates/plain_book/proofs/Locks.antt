@@ -8,13 +8,13 @@ use Rattle.map_entry.specs.Action.{OutputChangeParts}
 use Rattle.map_entry.specs.Setup.{SetupParts}
 use Rattle.plain_book.specs.Book.{bad_channel_by, bad_row_by, empty_by, first_some, locked_at}
 use Rattle.plain_book.specs.Book.{locked_by, refusal_of, time_by, unknown_by}
-use Rattle.plain_book.specs.Calls.{names_output}
+use Rattle.book_words.specs.Calls.{names_output}
 use Rattle.plain_book.specs.Full.{full_by}
 use Rattle.plain_book.specs.Legal.{IsAccepted, IsLegalJournal}
 use Rattle.plain_book.specs.Pending.{is_locked, is_pending, pending_of}
-use Rattle.plain_book.specs.declared.calls.JournalCall.{JournalCall}
-use Rattle.plain_book.specs.declared.replies.Refusal.TheVariants.{Locked}
-use Rattle.plain_book.specs.declared.requests.When.{When}
+use Rattle.book_words.specs.declared.calls.JournalCall.{JournalCall}
+use Rattle.book_words.specs.declared.replies.Refusal.TheVariants.{Locked}
+use Rattle.book_words.specs.declared.requests.When.{When}
 use Rattle.plain_book.proofs.Accepted.{IsActivated, cases}
 use Rattle.plain_book.proofs.Lists.{IsIn, in_more, in_last, in_left, any_in, any_from, in_filter}
 use Rattle.plain_book.proofs.Prefixes.{legal_by}
@@ -64,7 +64,7 @@ pub none_told : {X : Type 0} (b : Bool) (x : X) → (if b then Some x else None)
 none_told true x e = absurd cc
 none_told false x e = refl
 
--- an output that the action names isn't locked
+-- an output that the action names is not locked
 pub not_locked : (s : SetupParts) (before : List JournalCall) (call : JournalCall) (when : When)
     (action : List OutputChangeParts) (o : ℕ) → IsActivated s before call when action
     → names_output o call.request ≡ true

@@ -10,7 +10,7 @@ use Rattle.std.proofs.lemmas.Bool.{false≢true, not-true}
 use Rattle.map_entry.specs.Action.{OutputChangeParts}
 use Rattle.map_entry.specs.Setup.{SetupParts}
 use Rattle.plain_book.specs.Book.{first_some, locked_at, refusal_of}
-use Rattle.plain_book.specs.Calls.{call_due, is_activation, is_scheduled}
+use Rattle.book_words.specs.Calls.{call_due, is_activation, is_scheduled}
 use Rattle.plain_book.specs.Desk.{held_at, holds_item, is_above, item_at, later_item, latest_item}
 use Rattle.plain_book.specs.Desk.{refusal_from}
 use Rattle.plain_book.specs.Full.{places_used}
@@ -18,14 +18,14 @@ use Rattle.plain_book.specs.Journal.{entries_of}
 use Rattle.plain_book.specs.Legal.{IsAccepted, IsLegalJournal}
 use Rattle.plain_book.specs.Pending.{is_active, is_deleted, is_locked, is_pending, last_of, later}
 use Rattle.plain_book.specs.Pending.{latest, pending_call, pending_of}
-use Rattle.plain_book.specs.Replies.{item_of, shown}
+use Rattle.book_words.specs.Replies.{item_of, shown}
 use Rattle.plain_book.specs.Time.{begin}
-use Rattle.plain_book.specs.declared.calls.JournalCall.{JournalCall}
-use Rattle.plain_book.specs.declared.replies.Activation.{Activation}
-use Rattle.plain_book.specs.declared.replies.PendingItem.{PendingItem}
-use Rattle.plain_book.specs.declared.replies.Refusal.TheVariants.{Locked}
-use Rattle.plain_book.specs.declared.requests.When.TheVariants.{Now, At, After}
-use Rattle.plain_book.specs.declared.requests.When.{When}
+use Rattle.book_words.specs.declared.calls.JournalCall.{JournalCall}
+use Rattle.book_words.specs.declared.replies.Activation.{Activation}
+use Rattle.book_words.specs.declared.replies.PendingItem.{PendingItem}
+use Rattle.book_words.specs.declared.replies.Refusal.TheVariants.{Locked}
+use Rattle.book_words.specs.declared.requests.When.TheVariants.{Now, At, After}
+use Rattle.book_words.specs.declared.requests.When.{When}
 use Rattle.plain_book.proofs.Accepted.{IsActivated, cases}
 use Rattle.plain_book.proofs.Lists.{IsIn, in_more}
 use Rattle.plain_book.proofs.Prefixes.{legal_by}

@@ -11,23 +11,23 @@ use Rattle.map_entry.specs.Setup.{SetupParts}
 use Rattle.tai_time.specs.Time.{nanos_limit}
 use Rattle.map_entry.specs.declared.entry.Entry.{Entry}
 use Rattle.plain_book.specs.Book.{call_of}
-use Rattle.plain_book.specs.Calls.{journal_call}
+use Rattle.book_words.specs.Calls.{journal_call}
 use Rattle.plain_book.specs.Desk.{IsDecided, IsDesk, IsMade, KeptParts, item_above, last_behind}
 use Rattle.plain_book.specs.Desk.{settled, staged}
 use Rattle.plain_book.specs.Full.{places_each}
 use Rattle.plain_book.specs.Journal.{call_entries, change_entry, changes_of, kept_entry}
 use Rattle.plain_book.specs.Journal.{request_entries, entries_of}
-use Rattle.plain_book.specs.Replies.{accepted}
+use Rattle.book_words.specs.Replies.{accepted}
 use Rattle.plain_book.specs.Time.{begin, start}
-use Rattle.plain_book.specs.declared.calls.JournalCall.{JournalCall}
+use Rattle.book_words.specs.declared.calls.JournalCall.{JournalCall}
 use Rattle.plain_book.specs.declared.kept.Made.{Made}
-use Rattle.plain_book.specs.declared.replies.Activation.{Activation}
-use Rattle.plain_book.specs.declared.replies.PendingItem.{PendingItem}
-use Rattle.plain_book.specs.declared.replies.Reply.{Reply}
-use Rattle.plain_book.specs.declared.requests.Request.TheVariants.{Activate, Delete, Active}
-use Rattle.plain_book.specs.declared.requests.Request.TheVariants.{Pending}
-use Rattle.plain_book.specs.declared.requests.Request.{Request}
-use Rattle.plain_book.specs.declared.requests.When.{When}
+use Rattle.book_words.specs.declared.replies.Activation.{Activation}
+use Rattle.book_words.specs.declared.replies.PendingItem.{PendingItem}
+use Rattle.book_words.specs.declared.replies.Reply.{Reply}
+use Rattle.book_words.specs.declared.requests.Request.TheVariants.{Activate, Delete, Active}
+use Rattle.book_words.specs.declared.requests.Request.TheVariants.{Pending}
+use Rattle.book_words.specs.declared.requests.Request.{Request}
+use Rattle.book_words.specs.declared.requests.When.{When}
 use Rattle.plain_book.proofs.Accepted.{called}
 use Rattle.plain_book.proofs.Alike.{changes_alike}
 use Rattle.plain_book.proofs.Keeping.{IsNew, desk_entries, new_desk, new_reply, has_outputs}

@@ -1,4 +1,4 @@
--- What a book refuses, and what an activation that it doesn't refuse keeps to.
+-- What a book refuses, and what an activation that it does not refuse keeps to.
 use Rattle.std.proofs.Common.{◌≡◌, ℕ, ◌+◌, ◌*◌, ◌≤◌, false, ltb, List, length, map}
 use Rattle.std.proofs.Common.{Option, Some, None, refl, sym, ap, ◌∙◌}
 use Rattle.std.specs.Option.{option_map_or}
@@ -12,16 +12,16 @@ use Rattle.plain_book.specs.Desk.{IsDecided, IsDesk, KeptParts, refusal_from}
 use Rattle.plain_book.specs.Full.{places_each, places_used}
 use Rattle.plain_book.specs.Journal.{entries_of}
 use Rattle.plain_book.specs.Pending.{next_id, pending_of}
-use Rattle.plain_book.specs.Replies.{accepted, item_of}
+use Rattle.book_words.specs.Replies.{accepted, item_of}
 use Rattle.plain_book.specs.Time.{begin, is_over_from, is_time_over}
-use Rattle.plain_book.specs.declared.calls.JournalCall.{JournalCall}
-use Rattle.plain_book.specs.declared.replies.PendingItem.{PendingItem}
-use Rattle.plain_book.specs.declared.replies.Refusal.TheVariants.{Time, Full}
-use Rattle.plain_book.specs.declared.replies.Refusal.{Refusal}
-use Rattle.plain_book.specs.declared.replies.Reply.TheVariants.{Refused}
-use Rattle.plain_book.specs.declared.requests.Request.TheVariants.{Activate}
-use Rattle.plain_book.specs.declared.requests.Request.{Request}
-use Rattle.plain_book.specs.declared.requests.When.{When}
+use Rattle.book_words.specs.declared.calls.JournalCall.{JournalCall}
+use Rattle.book_words.specs.declared.replies.PendingItem.{PendingItem}
+use Rattle.book_words.specs.declared.replies.Refusal.TheVariants.{Time, Full}
+use Rattle.book_words.specs.declared.replies.Refusal.{Refusal}
+use Rattle.book_words.specs.declared.replies.Reply.TheVariants.{Refused}
+use Rattle.book_words.specs.declared.requests.Request.TheVariants.{Activate}
+use Rattle.book_words.specs.declared.requests.Request.{Request}
+use Rattle.book_words.specs.declared.requests.When.{When}
 use Rattle.plain_book.proofs.Alike.{refusal_alike}
 use Rattle.plain_book.proofs.Keeping.{has_outputs, pending_at, since_at}
 use Rattle.plain_book.proofs.Locks.{is_free, none_told}

@@ -11,21 +11,21 @@ use Rattle.map_entry.specs.declared.entry.Entry.{Entry}
 use Rattle.map_entry.specs.Action.{OutputChangeParts, applied}
 use Rattle.map_entry.specs.Row.{channels_of_output, row_fault}
 use Rattle.map_entry.specs.Setup.{SetupParts}
-use Rattle.plain_book.specs.declared.calls.JournalCall.{JournalCall}
-use Rattle.plain_book.specs.declared.requests.When.{When}
-use Rattle.plain_book.specs.declared.requests.Request.{Request}
-use Rattle.plain_book.specs.declared.requests.Request.TheVariants.{Activate, Delete}
-use Rattle.plain_book.specs.declared.requests.Request.TheVariants.{Active as AskActive}
-use Rattle.plain_book.specs.declared.requests.Request.TheVariants.{Pending as AskPending}
-use Rattle.plain_book.specs.declared.replies.ActiveView.{ActiveView}
-use Rattle.plain_book.specs.declared.replies.Refusal.{Refusal}
-use Rattle.plain_book.specs.declared.replies.Refusal.TheVariants.{Empty, Unknown, BadChannel}
-use Rattle.plain_book.specs.declared.replies.Refusal.TheVariants.{Locked, Row, Time, NotPending}
-use Rattle.plain_book.specs.declared.replies.Reply.{Reply}
-use Rattle.plain_book.specs.declared.replies.Reply.TheVariants.{Activated, Scheduled, Deleted}
-use Rattle.plain_book.specs.declared.replies.Reply.TheVariants.{Active, Pending, Refused}
-use Rattle.plain_book.specs.Calls.{journal_call}
-use Rattle.plain_book.specs.Replies.{accepted, active_view, item_of, shown}
+use Rattle.book_words.specs.declared.calls.JournalCall.{JournalCall}
+use Rattle.book_words.specs.declared.requests.When.{When}
+use Rattle.book_words.specs.declared.requests.Request.{Request}
+use Rattle.book_words.specs.declared.requests.Request.TheVariants.{Activate, Delete}
+use Rattle.book_words.specs.declared.requests.Request.TheVariants.{Active as AskActive}
+use Rattle.book_words.specs.declared.requests.Request.TheVariants.{Pending as AskPending}
+use Rattle.book_words.specs.declared.replies.ActiveView.{ActiveView}
+use Rattle.book_words.specs.declared.replies.Refusal.{Refusal}
+use Rattle.book_words.specs.declared.replies.Refusal.TheVariants.{Empty, Unknown, BadChannel}
+use Rattle.book_words.specs.declared.replies.Refusal.TheVariants.{Locked, Row, Time, NotPending}
+use Rattle.book_words.specs.declared.replies.Reply.{Reply}
+use Rattle.book_words.specs.declared.replies.Reply.TheVariants.{Activated, Scheduled, Deleted}
+use Rattle.book_words.specs.declared.replies.Reply.TheVariants.{Active, Pending, Refused}
+use Rattle.book_words.specs.Calls.{journal_call}
+use Rattle.book_words.specs.Replies.{accepted, active_view, item_of, shown}
 use Rattle.plain_book.specs.Time.{land, is_time_over, tick_in}
 use Rattle.plain_book.specs.Journal.{entries_of, row_from}
 use Rattle.plain_book.specs.Pending.{next_id, pending_of, pending_call, is_locked, last_of}
@@ -44,19 +44,19 @@ abbrev pub empty_by : List OutputChangeParts → Option Refusal
 empty_by [] = Some Empty
 empty_by (change ∷ action) = None
 
--- the output of a change isn't there
+-- the output of a change is not there
 abbrev pub unknown_at : DeviceParts → OutputChangeParts → Option Refusal
 unknown_at d c = if nat_lt c.output (length d.outputs) then None else Some (Unknown c.output)
 
--- the lowest output that isn't there
+-- the lowest output that is not there
 abbrev pub unknown_by : DeviceParts → List OutputChangeParts → Option Refusal
 unknown_by d action = first_some (unknown_at d) action
 
--- the lowest channel of a change that is past so many
+-- the lowest channel of a change that is past a given number
 abbrev pub bad_channel_of : ℕ → List Change → Option Change
 bad_channel_of channels changes = find (λ change. not (nat_lt change.channel channels)) changes
 
--- a channel of a change isn't one of its output
+-- a channel of a change is not one of its output
 abbrev pub bad_channel_at : DeviceParts → OutputChangeParts → Option Refusal
 bad_channel_at d c =
     option_map (λ change. BadChannel c.output change.channel)

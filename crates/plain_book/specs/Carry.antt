@@ -5,12 +5,12 @@ use Rattle.std.specs.List.{range_with_len}
 use Rattle.map_entry.specs.declared.entry.Entry.{Entry}
 use Rattle.map_entry.specs.Entry.{entry_of}
 use Rattle.map_entry.specs.Setup.{SetupParts}
-use Rattle.plain_book.specs.declared.calls.JournalCall.{JournalCall}
+use Rattle.book_words.specs.declared.calls.JournalCall.{JournalCall}
 use Rattle.plain_book.specs.Journal.{call_entries, entries_of, row_from}
 use Rattle.plain_book.specs.Pending.{is_pending}
 use Rattle.plain_book.specs.Time.{tick_after}
 
--- the entries of the calls that pass a test, in order, each as it was made behind the calls before
+-- the entries of the calls that pass a test, in order, each as it was made after the calls before
 -- it
 abbrev pub entries_where : SetupParts → (JournalCall → Bool) → List JournalCall → List JournalCall
     → List Entry
@@ -24,8 +24,8 @@ abbrev pub carried_row : SetupParts → List JournalCall → ℕ → ℕ → Ent
 carried_row s journal claims output =
     entry_of output (tick_after s claims) (row_from s (entries_of s journal) output claims) 0
 
--- what is carried after so many claims: the outputs' rows in order, and the entries of the pending
--- calls in the order of their ids
+-- what is carried after a number of claims: the outputs' rows in order, and the entries of the
+-- pending calls in the order of their ids
 abbrev pub carried : SetupParts → List JournalCall → ℕ → List Entry
 carried s journal claims =
     map (carried_row s journal claims) (range_with_len 0 (length s.device.outputs))

@@ -10,21 +10,21 @@ use Rattle.map_entry.specs.Setup.{SetupParts, IsSetup}
 use Rattle.map_entry.specs.declared.entry.Entry.{Entry}
 use Rattle.map_entry.specs.Entry.{due}
 use Rattle.tai_time.specs.Time.{nanos_limit}
-use Rattle.plain_book.specs.declared.calls.JournalCall.{JournalCall}
-use Rattle.plain_book.specs.declared.replies.Activation.{Activation}
-use Rattle.plain_book.specs.declared.replies.PendingItem.{PendingItem}
-use Rattle.plain_book.specs.declared.replies.Refusal.{Refusal}
-use Rattle.plain_book.specs.declared.replies.Refusal.TheVariants.{Locked}
-use Rattle.plain_book.specs.declared.replies.Reply.{Reply}
-use Rattle.plain_book.specs.declared.requests.Request.{Request}
-use Rattle.plain_book.specs.declared.requests.Stamp.{Stamp}
-use Rattle.plain_book.specs.declared.requests.When.{When}
+use Rattle.book_words.specs.declared.calls.JournalCall.{JournalCall}
+use Rattle.book_words.specs.declared.replies.Activation.{Activation}
+use Rattle.book_words.specs.declared.replies.PendingItem.{PendingItem}
+use Rattle.book_words.specs.declared.replies.Refusal.{Refusal}
+use Rattle.book_words.specs.declared.replies.Refusal.TheVariants.{Locked}
+use Rattle.book_words.specs.declared.replies.Reply.{Reply}
+use Rattle.book_words.specs.declared.requests.Request.{Request}
+use Rattle.book_words.specs.declared.requests.Stamp.{Stamp}
+use Rattle.book_words.specs.declared.requests.When.{When}
 use Rattle.plain_book.specs.declared.kept.Kept.{Kept}
 use Rattle.plain_book.specs.declared.kept.Made.{Made}
 use Rattle.plain_book.specs.declared.kept.Settling.{Settling}
 use Rattle.plain_book.specs.declared.kept.Decided.{Decided}
-use Rattle.plain_book.specs.Calls.{action_of, names}
-use Rattle.plain_book.specs.Replies.{activation, item_due, item_of, pending_item, shown}
+use Rattle.book_words.specs.Calls.{action_of, names}
+use Rattle.book_words.specs.Replies.{activation, item_due, item_of, pending_item, shown}
 use Rattle.plain_book.specs.Pending.{last_of, next_id, pending_of}
 use Rattle.plain_book.specs.Journal.{call_entries, entries_of, kept_entry}
 use Rattle.plain_book.specs.Full.{full_from, places_each, places_used}
@@ -37,7 +37,7 @@ use Rattle.plain_book.specs.Time.{start}
 -- ---- what is answered
 
 -- The reply is the book's at the journal before and the stamp's claims; the stamp counts that
--- journal's calls; and the journal after it has the accepted call behind it, where one was
+-- journal's calls; and the journal after it has the accepted call after it, where one was
 -- accepted. No call of the journal was accepted at more claims.
 pub record IsAsked (s : SetupParts) (before after : List JournalCall) (client : ℕ)
     (request : Request) (reply : Reply) (stamp : Stamp) : Type 0 where
@@ -59,7 +59,7 @@ pub record DeskParts : Type 0 where
   pub claims : ℕ
   pub journal : List JournalCall
 
--- the book of a setup after so many claims, with these calls
+-- the book of a setup after a number of claims, with these calls
 abbrev pub desk_parts : SetupParts → ℕ → List JournalCall → DeskParts
 desk_parts setup claims journal = record { setup = setup; claims = claims; journal = journal }
 
@@ -91,13 +91,14 @@ parts kept =
       used = kept.used;
     }
 
--- so many places are kept for what may be deleted: one for each output that a pending activation
--- names
+-- a given number of places are kept for what may be deleted: one for each output that a pending
+-- activation names
 abbrev pub places_kept : List PendingItem → ℕ
 places_kept items = sum_by (λ item. length item.action) items
 
--- What a book keeps over its entries, after so many claims. They select as the journal's do from
--- some claims on; and each entry has a place, and so has each entry of a deletion that may come.
+-- What a book keeps over its entries, after a number of claims. They select as the journal's do
+-- from some claims on; and each entry has a place, and so has each entry of a deletion that may
+-- come.
 pub record IsDesk (s : SetupParts) (claims : ℕ) (entries : List Entry)
     (p : KeptParts) : Type 0 where
   pub setup : IsSetup s
@@ -124,7 +125,7 @@ is_above key item = nat_lt key (item_due item)
 abbrev pub shown_item : PendingItem → Activation
 shown_item item = activation item.id item.when item.tick
 
--- it, or the one that was chosen of those behind it: that one, unless it counts from an earlier
+-- it, or the one that was chosen of those after it: that one, unless it counts from an earlier
 -- tick
 abbrev pub later_item : PendingItem → Option Activation → Activation
 later_item item None = shown_item item
@@ -135,8 +136,8 @@ abbrev pub latest_item : List PendingItem → Option Activation
 latest_item [] = None
 latest_item (item ∷ items) = Some (later_item item (latest_item items))
 
--- after so many claims: the activations that count from a key or below are no longer pending, and
--- of them the one that counts last is shown
+-- after a number of claims: the activations that count from a key or below are no longer pending,
+-- and of them the one that counts last is shown
 abbrev pub looked_at : KeptParts → ℕ → ℕ → KeptParts
 looked_at p key claims =
     record {
@@ -149,7 +150,7 @@ looked_at p key claims =
       used = p.used;
     }
 
--- with entries that select as the journal does from so many claims on
+-- with entries that select as the journal does from a number of claims on
 abbrev pub from_claims : KeptParts → ℕ → KeptParts
 from_claims p claims =
     record {
@@ -162,7 +163,7 @@ from_claims p claims =
       used = p.used;
     }
 
--- with a call put behind the others, and what is pending of it
+-- with a call put after the others, and what is pending of it
 abbrev pub staged : KeptParts → JournalCall → Option PendingItem → KeptParts
 staged p call item =
     record {
@@ -175,7 +176,7 @@ staged p call item =
       used = p.used;
     }
 
--- so many of its calls and of what is pending
+-- a given number of its calls and of what is pending
 abbrev pub cut : KeptParts → ℕ → ℕ → KeptParts
 cut p calls items =
     record {
@@ -208,10 +209,10 @@ settled p done =
 
 -- ---- what is decided
 
--- What new entries of so many claims are, behind those of a table: there are places for them; they
--- say that they were published at these claims; their outputs are there, and their rows pass the
--- check; none counts from a tick that has begun; and each counts from one that begins before the
--- end of time.
+-- What new entries of a given number of claims are, after those of a table: there are places for
+-- them; they say that they were published at these claims; their outputs are there, and their rows
+-- pass the check; none counts from a tick that has begun; and each counts from one that begins
+-- before the end of time.
 pub record AreNewEntries (s : SetupParts) (claims : ℕ) (entries new : List Entry) : Type 0 where
   pub room : length entries + length new ≤ PLACES
   pub ats : All (λ e. e.at ≡ claims) new
@@ -219,7 +220,7 @@ pub record AreNewEntries (s : SetupParts) (claims : ℕ) (entries new : List Ent
   pub timely : AreTimely s new
   pub starts : All (λ e. start s (due e) < nanos_limit) new
 
--- What an accepted request makes: entries that are those of its call, behind the table's and behind
+-- What an accepted request makes: entries that are those of its call, after the table's and after
 -- the whole journal's, at these claims; and with all of it done the book is as before.
 pub record IsMade (s : SetupParts) (claims : ℕ) (entries : List Entry) (p : KeptParts)
     (m : Made) : Type 0 where
@@ -273,7 +274,7 @@ abbrev pub item_above : ℕ → ℕ → When → ℕ → List OutputChangeParts 
 item_above key id when tick action =
     if nat_lt key tick then Some (pending_item id when tick action) else None
 
--- the activation that counts last behind an accepted one: that one, where it counts from the key or
+-- the activation that counts last after an accepted one: that one, where it counts from the key or
 -- below
 abbrev pub last_behind : ℕ → ℕ → When → ℕ → Option Activation → Option Activation
 last_behind key id when tick last = if nat_lt key tick then last else Some (activation id when tick)

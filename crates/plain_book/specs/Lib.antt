@@ -1,14 +1,11 @@
 pub mod Book
-pub mod Calls
 pub mod Carry
 pub mod Desk
 pub mod Full
 pub mod Given
-pub mod History
 pub mod Journal
 pub mod Legal
 pub mod Pending
-pub mod Replies
 pub mod Rows
 pub mod Ruling
 pub mod Time

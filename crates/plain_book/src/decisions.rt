@@ -10,10 +10,10 @@ ghost use Rattle.plain_book.specs.Desk.{IsDecided, IsDesk, IsOpen, item_above, i
 ghost use Rattle.plain_book.specs.Desk.{last_behind, parts, refusal_from, taken_by};
 ghost use Rattle.plain_book.specs.Full.{full_from, places_each};
 ghost use Rattle.plain_book.specs.Pending.{pending_call};
-ghost use Rattle.plain_book.specs.Replies.{accepted};
+ghost use Rattle.book_words.specs.Replies.{accepted};
 ghost use Rattle.plain_book.specs.Rows.{AreEntries};
 ghost use Rattle.plain_book.specs.Time.{begin, is_over_from, land, land_from};
-ghost use Rattle.plain_book.specs.declared.requests.Request.TheVariants.{Activate, Delete};
+ghost use Rattle.book_words.specs.declared.requests.Request.TheVariants.{Activate, Delete};
 
 use crate::moments::{first_after, land};
 use crate::refusals::{bad_channel, empty, locked, unknown};
@@ -102,7 +102,7 @@ fn find_item(pending: &[PendingItem], id: u64) -> Option<&PendingItem>
     pending.iter().find(|item| item.id == id)
 }
 
-/// The pending activation that an accepted one is, where it counts from behind the first tick that
+/// The pending activation that an accepted one is, where it counts from after the first tick that
 /// has not begun.
 fn item(
     moments: Moments,
@@ -121,7 +121,7 @@ fn item(
     }
 }
 
-/// The activation that the active map shows behind an accepted one.
+/// The activation that the active map shows after an accepted one.
 fn last_behind(
     moments: Moments,
     id: u64,
@@ -288,7 +288,7 @@ fn delete(
     }
 }
 
-/// The tick from which an activation counts that isn't past the end of time.
+/// The tick from which an activation counts that is not past the end of time.
 fn landed(setup: &Setup, first: u64, when: &When) -> u64
     requires { is_over_from setup.now first when.now ≡ false }
     ensures { result ≡ land_from setup.now first when.now }
@@ -345,8 +345,8 @@ fn activate(
     }
 }
 
-/// Decides on a request after so many claims, at which the book has looked at what is pending, over
-/// the entries of its table. Nothing is changed.
+/// Decides on a request after a number of claims, at which the book has looked at what is pending,
+/// over the entries of its table. Nothing is changed.
 pub fn decide(
     alloc: Global,
     setup: &Setup,

@@ -9,7 +9,7 @@ ghost use Rattle.map_entry.specs.declared.claims.TheConstants.{CLAIMS_LIMIT};
 ghost use Rattle.plain_book.specs.Desk.{IsAnswer, IsAsked, IsDesk, IsMade, desk_parts, parts};
 ghost use Rattle.plain_book.specs.Journal.{base_entries, entries_of};
 ghost use Rattle.plain_book.specs.Legal.{IsLegalJournal};
-ghost use Rattle.plain_book.specs.declared.calls.JournalCall.{JournalCall};
+ghost use Rattle.book_words.specs.declared.calls.JournalCall.{JournalCall};
 
 use crate::decisions::decide;
 use crate::kept::{Decided, Kept, Made, look, settle, stage};
@@ -43,7 +43,8 @@ pub trait Desk {
     ghost answers_at: { Self → ℕ → Type 0 };
 
     /// Answers a client's request at its journal and a number of claims, and keeps the call where
-    /// it accepts one. Every other answer and want of memory leave the journal as it was.
+    /// it accepts one. Every other answer leaves the journal as it was, and so does running out of
+    /// memory.
     fn ask(&mut self, client: u8, request: &Request) -> Result<(Reply, Stamp), NoMemory>
         requires { ready self.old client }
         ensures asked { IfOk result (λ r. IsAsked (setup self.old) (journal self.old) (journal
@@ -134,7 +135,7 @@ impl PlainDesk {
         self.claims += 1;
     }
 
-    /// Makes claims until there are so many.
+    /// Makes claims until there are as many as given.
     pub fn raise_to(&mut self, claims: u64)
         requires more { self.old.claims ≤ claims }
         requires few { claims < CLAIMS_LIMIT }
@@ -171,7 +172,7 @@ impl PlainDesk {
     }
 }
 
-/// Adds entries to both lists. Want of memory leaves them as they were.
+/// Adds entries to both lists. If memory runs out, they stay as they were.
 fn append(lists: &mut Lists, new: Entries) -> Result<(), NoMemory>
     ensures all { OnOk result (lists.new.all ≡ lists.old.all ++ new) }
     ensures live { OnOk result (lists.new.live.items ≡ lists.old.live.items ++ new) }
@@ -190,7 +191,7 @@ fn append(lists: &mut Lists, new: Entries) -> Result<(), NoMemory>
     }
 }
 
-/// Keeps an accepted call with its entries. Want of memory leaves all as it was.
+/// Keeps an accepted call with its entries. If memory runs out, everything stays as it was.
 fn keep(
     setup: &Setup,
     lists: &mut Lists,
@@ -232,8 +233,8 @@ fn keep(
     }
 }
 
-/// Answers a request after so many claims, at which it has looked at what is pending, and keeps the
-/// call where one is accepted.
+/// Answers a request after a number of claims, at which it has looked at what is pending, and keeps
+/// the call where one is accepted.
 fn answer_now(
     alloc: Global,
     setup: &Setup,
@@ -264,7 +265,7 @@ fn answer_now(
     }
 }
 
-/// Answers a request after so many claims, and keeps the call where one is accepted.
+/// Answers a request after a number of claims, and keeps the call where one is accepted.
 fn answer(
     alloc: Global,
     setup: &Setup,

@@ -37,11 +37,11 @@ pub struct Kept {
 pub struct Settling {
     /// The id of what it takes back.
     pub takes: Option<u64>,
-    /// The activation that the active map shows behind it.
+    /// The activation that the active map shows after it.
     pub last: Option<Activation>,
-    /// The number of the next activation behind it.
+    /// The number of the next activation after it.
     pub next: u64,
-    /// The places used behind it.
+    /// The places used after it.
     pub used: u64,
 }
 
@@ -70,7 +70,7 @@ fn shown_item(item: &PendingItem) -> Activation
     Activation::new(item.id, item.when, item.tick)
 }
 
-/// A pending activation, or the one that was chosen of those behind it.
+/// A pending activation, or the one that was chosen of those after it.
 fn later_item(item: &PendingItem, next: Option<Activation>) -> Activation
     ensures { result ≡ later_item item.now next }
 {
@@ -106,8 +106,8 @@ fn latest_passed(pending: &[PendingItem], first: u64) -> Option<Activation>
     next
 }
 
-/// Looks at what is pending after so many claims: what counts by now is pending no more. It takes
-/// no memory.
+/// Looks at what is pending after a number of claims: what counts by now is pending no more. It
+/// takes no memory.
 pub fn look(kept: &mut Kept, setup: &Setup, claims: u64)
     requires { claims < CLAIMS_LIMIT }
     ensures parts { parts kept.new ≡ looked_at (parts kept.old) (begin setup.now claims) claims }
@@ -120,15 +120,15 @@ pub fn look(kept: &mut Kept, setup: &Setup, claims: u64)
     kept.seen = claims;
 }
 
-/// Leaves what counts from behind a tick.
+/// Leaves what counts from after a tick.
 fn keep_above(pending: &mut Vec<PendingItem>, first: u64)
     ensures { pending.new.items ≡ filter (is_above first) pending.old.items }
 {
     pending.retain(|item| first < item.tick);
 }
 
-/// Puts a call behind the others, and behind what is pending, where it is. Want of memory leaves
-/// both lists as they were.
+/// Puts a call after the others, and after what is pending, where it is. If memory runs out, both
+/// lists stay as they were.
 pub fn stage(kept: &mut Kept, call: JournalCall, item: Option<PendingItem>) -> Result<(), NoMemory>
     ensures ok { OnOk result (parts kept.new ≡ staged (parts kept.old) call item) }
     ensures err { OnErr result (parts kept.new ≡ parts kept.old) }
@@ -151,7 +151,8 @@ pub fn stage(kept: &mut Kept, call: JournalCall, item: Option<PendingItem>) -> R
     }
 }
 
-/// Leaves so many calls and pending activations: what was staged is taken back. It takes no memory.
+/// Leaves a given number of calls and pending activations: what was staged is taken back. It takes
+/// no memory.
 pub fn unstage(kept: &mut Kept, calls: usize, items: usize)
     ensures { parts kept.new ≡ cut (parts kept.old) calls items }
 {

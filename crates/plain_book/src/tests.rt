@@ -5,7 +5,7 @@ ghost use Rattle.std.specs.Prelude.{◌<◌, ◌^◌};
 use crate::{
     Activation, ClaimItem, ClaimItems, Desk, Given, History, Journal, JournalCall, Kept,
     PendingItem, PendingItems, PlainDesk, Refusal, Reply, ReplyItem, ReplyItems, Request, Said,
-    Stamp, When, stage, unstage,
+    Stamp, When, in_order, merge, stage, unstage,
 };
 use io_caps::{
     Bytes, Device, DeviceParts, Flags, Input, Inputs, Labels, NoMemory, Output, Outputs, Parent,
@@ -34,7 +34,7 @@ enum Asked {
     Pending,
 }
 
-/// So many more claims, then a request, and what it is told.
+/// A given number of more claims, then a request, and what it is told.
 type Step = (u64, Asked, Told);
 
 const A0: Cell = Cell::From {
@@ -279,7 +279,7 @@ fn raise(desk: &mut PlainDesk, claims: u64) {
     }
 }
 
-/// What the whole journal says of an activation that isn't deleted.
+/// What the whole journal says of an activation that is not deleted.
 fn stands(journal: &[JournalCall], id: u64) -> bool {
     journal.iter().all(|call| match &call.request {
         Request::Delete { id: of } => *of != id,
@@ -597,8 +597,8 @@ fn one_output(rt: HostRuntime) -> Result<(), Fail> {
     run(&rt, rt.alloc(), 0, &steps)
 }
 
-/// The greatest first tick: ticks up to 2^23 behind it begin before the end of time, and the next
-/// one doesn't.
+/// The greatest first tick: ticks up to 2^23 after it begin before the end of time, and the next
+/// one does not.
 #[test]
 fn end_of_time(rt: HostRuntime) -> Result<(), Fail> {
     let base = 26_388_279_058_235_391;
@@ -733,5 +733,49 @@ fn full_table(rt: HostRuntime) -> Result<(), Fail> {
         ask(&rt, &mut desk, &Request::Active)?,
         Told::Active(Some(255), [[A0, OFF], [A1, OFF]])
     );
+    Ok(())
+}
+
+/// Replies to clients, each at a place.
+fn replies(alloc: Global, of: &[(u8, u64, u64)]) -> Result<ReplyItems, NoMemory> {
+    let mut made = ReplyItems::new(alloc);
+    for (client, calls, claims) in of {
+        let said = Said::Plain(Reply::Refused(Refusal::Empty));
+        let stamp = Stamp {
+            calls: *calls,
+            claims: *claims,
+        };
+        made.push(ReplyItem::new(*client, stamp, said))?;
+    }
+    Ok(made)
+}
+
+/// Of each reply, its client and its place.
+fn places(alloc: Global, of: &ReplyItems) -> Result<Vec<(u8, u64, u64)>, NoMemory> {
+    let mut made = Vec::new(alloc);
+    for reply in of.as_slice() {
+        made.push((reply.client, reply.stamp.calls, reply.stamp.claims))?;
+    }
+    Ok(made)
+}
+
+/// Replies are put in order by claims, calls and client, and more are put among them.
+#[test]
+fn replies_in_order(rt: HostRuntime) -> Result<(), Fail> {
+    let alloc = rt.alloc();
+    let came = [(5, 1, 2), (2, 1, 2), (2, 0, 1), (7, 2, 2)];
+    let mut made = in_order(replies(alloc, &came)?)?;
+    let sorted = [(2, 0, 1), (2, 1, 2), (5, 1, 2), (7, 2, 2)];
+    assert_eq!(rt; places(alloc, &made)?.as_slice(), sorted.as_slice());
+    made = merge(made, replies(alloc, &[(3, 1, 2), (0, 0, 0)])?)?;
+    let merged = [
+        (0, 0, 0),
+        (2, 0, 1),
+        (2, 1, 2),
+        (3, 1, 2),
+        (5, 1, 2),
+        (7, 2, 2),
+    ];
+    assert_eq!(rt; places(alloc, &made)?.as_slice(), merged.as_slice());
     Ok(())
 }

@@ -6,14 +6,14 @@ use Rattle.std.proofs.lemmas.List.Elements.{All-from_recursion}
 use Rattle.std.proofs.lemmas.List.Kept.{AllPairs-cons}
 use Rattle.io_caps.specs.Device.{IsDevice}
 use Rattle.io_caps.specs.declared.device.DeviceParts.{DeviceParts}
-use Rattle.plain_book.specs.declared.calls.JournalCall.{JournalCall}
-use Rattle.plain_book.specs.declared.history.ClaimItem.{ClaimItem}
-use Rattle.plain_book.specs.declared.history.ReplyItem.{ReplyItem}
-use Rattle.plain_book.specs.declared.history.Said.TheVariants.{Http}
-use Rattle.plain_book.specs.declared.requests.Request.{Request}
-use Rattle.plain_book.specs.declared.requests.Request.TheVariants.{Active, Pending}
-use Rattle.plain_book.specs.Calls.{journal_call}
-use Rattle.plain_book.specs.History.{stamp, claim_item, reply_item, history_of, IsWhole}
+use Rattle.book_words.specs.declared.calls.JournalCall.{JournalCall}
+use Rattle.book_words.specs.declared.history.ClaimItem.{ClaimItem}
+use Rattle.book_words.specs.declared.history.ReplyItem.{ReplyItem}
+use Rattle.book_words.specs.declared.history.Said.TheVariants.{Http}
+use Rattle.book_words.specs.declared.requests.Request.{Request}
+use Rattle.book_words.specs.declared.requests.Request.TheVariants.{Active, Pending}
+use Rattle.book_words.specs.Calls.{journal_call}
+use Rattle.book_words.specs.History.{stamp, claim_item, reply_item, history_of, IsWhole}
 use Rattle.exact_text.specs.Forms.{number_text}
 use Rattle.exact_text.proofs.FormLengths.{length-number}
 use Rattle.capture_file.specs.Device.{flag}

@@ -4,8 +4,8 @@ use Rattle.std.specs.Option.{option_to_list}
 use Rattle.std.proofs.Math.Seq.{take-append_seam}
 use Rattle.plain_book.specs.Book.{call_of, reply_of}
 use Rattle.plain_book.specs.Desk.{DeskParts}
-use Rattle.plain_book.specs.declared.history.ReplyItem.{ReplyItem}
-use Rattle.plain_book.specs.History.{AreInOrder, put}
+use Rattle.book_words.specs.declared.history.ReplyItem.{ReplyItem}
+use Rattle.book_words.specs.History.{AreInOrder, put}
 use Rattle.plain_book.proofs.Keeping.{has_outputs}
 use Rattle.interleavings.specs.declared.events.Event.TheVariants.{Call}
 use Rattle.interleavings.specs.Core.{desk_after, plain_item, taken_in}

@@ -1,6 +1,6 @@
 use Rattle.std.proofs.Common.{◌≡◌, ◌≤◌, length, true}
 use Rattle.std.specs.Prelude.{IfSome, slice_get}
-use Rattle.plain_book.specs.History.{comes_before}
+use Rattle.book_words.specs.History.{comes_before}
 use Rattle.interleavings.proofs.asking.place.Given as goal
 
 abbrev pub decreases-loop-at : goal.decreases-loop-at

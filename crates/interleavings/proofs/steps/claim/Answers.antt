@@ -1,8 +1,8 @@
 use Rattle.std.proofs.Common.{◌≡◌, ◌∙◌, ◌+◌, refl, sym, ap, set, ℕ, List, Some}
 use Rattle.std.proofs.Common.{rules}
-use Rattle.plain_book.specs.declared.history.ClaimItem.{ClaimItem}
+use Rattle.book_words.specs.declared.history.ClaimItem.{ClaimItem}
 use Rattle.plain_book.specs.Desk.{DeskParts, desk_parts}
-use Rattle.plain_book.specs.History.{history_of}
+use Rattle.book_words.specs.History.{history_of}
 use Rattle.plain_book.proofs.Keeping.{has_outputs}
 use Rattle.interleavings.specs.declared.events.Event.TheVariants.{Claim}
 use Rattle.interleavings.specs.declared.events.Answer.TheVariants.{Claimed, Over}

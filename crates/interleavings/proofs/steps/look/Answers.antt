@@ -1,9 +1,9 @@
 use Rattle.std.proofs.Common.{◌≡◌, ◌∙◌, refl, sym, ap, true, length, List, None}
 use Rattle.std.proofs.Common.{arith}
 use Rattle.std.proofs.lemmas.List.FromFn.{length-map-range_with_len}
-use Rattle.plain_book.specs.declared.history.ClaimItem.{ClaimItem}
+use Rattle.book_words.specs.declared.history.ClaimItem.{ClaimItem}
 use Rattle.plain_book.specs.Desk.{DeskParts}
-use Rattle.plain_book.specs.History.{history_of}
+use Rattle.book_words.specs.History.{history_of}
 use Rattle.plain_book.specs.Time.{tick_of_claim}
 use Rattle.plain_book.proofs.Keeping.{has_outputs}
 use Rattle.interleavings.specs.declared.events.Event.TheVariants.{Look}

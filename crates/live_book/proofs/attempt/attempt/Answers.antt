@@ -1,6 +1,6 @@
 use Rattle.std.proofs.Common.{List, sym, ap, subst, arith}
 use Rattle.map_entry.specs.declared.entry.Entry.{Entry}
-use Rattle.plain_book.specs.declared.given.Given.{Given}
+use Rattle.book_words.specs.declared.given.Given.{Given}
 use Rattle.plain_book.specs.Desk.{IsDecided, IsDesk, parts}
 use Rattle.claim_word.specs.Faces.{PublisherFace}
 use Rattle.live_book.specs.Books.{IsBook}

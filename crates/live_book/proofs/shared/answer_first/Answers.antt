@@ -1,6 +1,6 @@
 use Rattle.std.proofs.Common.{◌≡◌, ◌<◌, List, length, Some, ap, ◌∙◌, subst}
 use Rattle.std.specs.Prelude.{slice_get}
-use Rattle.plain_book.specs.declared.requests.Request.{Request}
+use Rattle.book_words.specs.declared.requests.Request.{Request}
 use Rattle.live_book.specs.Named.{left_of}
 use Rattle.live_book.proofs.Sharing.{next_is}
 use Rattle.live_book.proofs.shared.answer_first.Goals as goal

@@ -1,5 +1,5 @@
 use Rattle.std.proofs.Common.{ap, ◌∙◌, arith, ℕ}
-use Rattle.plain_book.specs.Calls.{journal_call}
+use Rattle.book_words.specs.Calls.{journal_call}
 use Rattle.plain_book.specs.Desk.{item_above, last_behind, parts}
 use Rattle.plain_book.proofs.Keeping.{IsNew, desk_entries}
 use Rattle.plain_book.proofs.Publishing.{new_decided}

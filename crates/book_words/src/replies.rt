@@ -1,7 +1,7 @@
 //! What the book of activations answers.
 
 ghost use Rattle.std.specs.Prelude.{◌≡◌};
-ghost use Rattle.plain_book.specs.Replies.{activation, pending_item};
+ghost use Rattle.book_words.specs.Replies.{activation, pending_item};
 
 use crate::When;
 use io_caps::{ListOf, NoMemory, TryCopy};
@@ -67,7 +67,7 @@ pub type PendingItems = ListOf<PendingItem>;
 pub enum Refusal {
     /// The action names no output.
     Empty,
-    /// The output isn't there.
+    /// The output is not there.
     Unknown { output: u8 },
     /// The output has no such channel.
     BadChannel { output: u8, channel: u8 },
