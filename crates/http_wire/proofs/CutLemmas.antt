@@ -255,7 +255,7 @@ lines_of bytes front e has is_open =
     let cut = cut_line (start_body h) behind.0 more rest (no_feed_in_start h valid) behind.2 in
     subst (λ (s : List ℕ). HasPart s Start) (sym e) (start_part front h more valid (subst HasNoRequest e is_open.0) behind cut)
 
--- ---- whole lines and the bytes behind them
+-- ---- whole lines and the bytes after them
 
 no_feed_no_line : (begun : Bool) (bytes : List ℕ) → has_feed bytes ≡ false → has_line_from begun bytes ≡ false
 no_feed_no_line begun [] none = refl

@@ -58,7 +58,7 @@ digit_more most number digits at next within all next_is value =
     let same : next ≡ min (number * 10 + digit_value b) most = next_is ∙ ap (λ (d : ℕ). min (number * 10 + d) most) (omega (arith, digit)) in
     (ap (λ (n : ℕ). min (digits_value_after 10 n rest) most) same ∙ cut_off most (number * 10 + digit_value b) rest ∙ rw more at value, parts.1)
 
--- the body, and what stands behind it
+-- the body, and what follows it
 pub cut_body : (held body : List ℕ) (at n : ℕ) → body ≡ slice_range held at (at + n) → at + n ≤ length held
     → (body ++ drop (at + n) held ≡ drop at held) × (length body ≡ n)
 cut_body held body at n e h =

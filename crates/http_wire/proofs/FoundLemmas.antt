@@ -1,4 +1,4 @@
--- What is found at the front of the bytes, and more bytes behind it.
+-- What is found at the front of the bytes, and more bytes after it.
 use Rattle.std.proofs.Common.{◌≡◌, ℕ, ◌+◌, ◌-◌, ◌<◌, ◌≤◌, List, ◌++◌, length, take, drop}
 use Rattle.std.proofs.Common.{slice_range, sym, ap, ◌∙◌, subst, arith, take-append-drop, length-take, length-drop, length-append}
 use Rattle.std.proofs.lemmas.List.{drop-append-le, take-append-le}

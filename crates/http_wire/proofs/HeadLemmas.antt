@@ -55,7 +55,7 @@ fit_at held headers spans h room inside at =
     let size : length p ≤ MOST_HEAD = omega (arith, at.len, length-take MOST_HEAD held) in
     record { reads = rw rest reads; fields = count; size = size }
 
--- no bytes behind them make a fit head
+-- no bytes after them make a fit head
 pub doubtful : (held : List ℕ) → IsHopeless (window held) → IsDoubtful held
 doubtful held over more b =
     let split : window held ++ (drop MOST_HEAD held ++ more) ≡ held ++ more =

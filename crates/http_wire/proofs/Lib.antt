@@ -7,3 +7,4 @@ pub mod ScanLemmas
 pub mod LineLemmas
 pub mod CutLemmas
 pub use Rattle.exact_text.proofs.Growth.{growth}
+pub mod OneAnswer

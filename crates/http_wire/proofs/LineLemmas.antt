@@ -1,4 +1,4 @@
--- A head that goes on: its whole lines, and the open line behind them.
+-- A head that goes on: its whole lines, and the open line after them.
 use Rattle.std.proofs.Common.{◌≡◌, ℕ, true, List, [], ◌∷◌, ◌++◌, length, take, IsTrue, sym, ap, ◌∙◌, subst, arith}
 use Rattle.std.proofs.Common.{append_assoc, append-nil, length-append, drop, take-append-drop}
 use Rattle.std.proofs.lemmas.Grind.{flat_map-append}
@@ -23,7 +23,7 @@ head_text h rest = print_request-append h rest
         → a ++ (b ++ 32 ∷ (c ++ 32 ∷ (d ++ (e ++ ((f ++ g) ++ r))))) ≡ (a ++ (b ++ 32 ∷ (c ++ 32 ∷ (d ++ (e ++ f))))) ++ (g ++ r)
     regroup a b c d e f g r = simp append_assoc
 
--- these bytes behind the others make a head
+-- these bytes after the others make a head
 abbrev pub Ends : List ℕ → List ℕ → Type 0
 Ends bytes more = (h : RequestHead) × ReadsRequest (bytes ++ more) h []
 

@@ -1,4 +1,4 @@
--- Texts that are appended one behind the other.
+-- Texts that are appended one after the other.
 use Rattle.std.proofs.Common.{◌≡◌, ℕ, List, ◌++◌, ap, ◌∙◌, append_assoc}
 
 pub before : (old mid new part rest : List ℕ) → mid ≡ old ++ part → new ≡ mid ++ rest → new ≡ old ++ (part ++ rest)

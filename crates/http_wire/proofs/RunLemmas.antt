@@ -1,4 +1,4 @@
--- The pieces in which a stream came don't matter.
+-- The pieces in which a stream came do not matter.
 use Rattle.std.proofs.Common.{◌≡◌, ℕ, Bool, true, false, List, [], ◌∷◌, ◌++◌, refl, sym, ap}
 use Rattle.std.proofs.Common.{subst, arith, append_assoc, append-nil, inl, inr, length-append, if◌then◌else◌, Result, Ok, Err, OnOk}
 use Rattle.std.proofs.lemmas.List.{take-append-le}

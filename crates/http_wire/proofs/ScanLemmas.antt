@@ -59,7 +59,7 @@ end_has_line : (end : LineEnd) (rest : List ℕ) → list_any (λ b. b == 10) (p
 end_has_line crlf rest = refl
 end_has_line lf rest = refl
 
--- the bytes behind empty lines, of a start line and what follows
+-- the bytes after empty lines, of a start line and what follows
 abbrev pub start_text : RequestHead → List ℕ → List ℕ
 start_text h rest = h.method ++ 32 ∷ (h.target ++ 32 ∷ (print_version h.minor ++ (print_end h.line_end ++ rest)))
 

@@ -67,7 +67,7 @@ framing_of method fields =
     if list_any (is_named (codes "transfer-encoding")) fields then Refused LENGTH_REQUIRED
     else framing_from method (values_of (codes "content-length") fields)
 
--- the field says that the connection ends behind the request
+-- the field says that the connection ends after the request
 abbrev pub says_close : List ℕ × List ℕ → Bool
 says_close field = is_named (codes "connection") field
     && str_eq_ignore_ascii_case field.1 (codes "close")

@@ -49,7 +49,7 @@ IsFront bytes Awaited = IsAwaited bytes
 IsFront bytes (Refused status) = IsRefused bytes status
 IsFront bytes (Found head) = HasHead bytes head
 
--- what is known of the bytes, or of the first so many of them
+-- what is known of the bytes, or of a front of them of a given length
 abbrev pub IsKnown : List ℕ → Known → Type 0
 IsKnown bytes (NoLine seen begun) = HasNoLine bytes seen begun
 IsKnown bytes Lines = has_line bytes ≡ true

@@ -20,7 +20,7 @@ pub record IsFit (bytes : List ℕ) (h : RequestHead) (rest : List ℕ) : Type 0
 abbrev pub BeginsFit : List ℕ → Type 0
 BeginsFit bytes = (h : RequestHead) × (rest : List ℕ) × IsFit bytes h rest
 
--- whatever bytes follow (or none), they don't begin with a head within its limits
+-- whatever bytes follow (or none), they do not begin with a head within its limits
 abbrev pub IsDoubtful : List ℕ → Type 0
 IsDoubtful bytes = (more : List ℕ) → ¬ (BeginsFit (bytes ++ more))
 
@@ -38,7 +38,7 @@ abbrev pub skip_newlines : List ℕ → List ℕ
 skip_newlines [] = []
 skip_newlines (b ∷ bytes) = if is_newline b then skip_newlines bytes else b ∷ bytes
 
--- a whole line has come: a line feed stands behind the first byte that is neither CR nor LF
+-- a whole line has come: a line feed follows the first byte that is neither CR nor LF
 abbrev pub has_line : List ℕ → Bool
 has_line bytes = list_any (λ b. b == 10) (skip_newlines bytes)
 

@@ -28,7 +28,7 @@ path_in (b ∷ target) = if b == 63 then [] else b ∷ path_in target
 abbrev pub framing_in : RequestHead → Framing
 framing_in h = framing_of (method_in h.method) (map name_and_value h.fields)
 
--- the connection ends behind the request: it is of HTTP/1.0, or says so
+-- the connection ends after the request: it is of HTTP/1.0, or says so
 abbrev pub closes_in : RequestHead → Bool
 closes_in h = (h.minor == 0) || list_any says_close (map name_and_value h.fields)
 

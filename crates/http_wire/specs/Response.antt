@@ -41,7 +41,7 @@ unfoldable pub status_line : ℕ → List ℕ
 status_line status = codes "HTTP/1.1 " ++ decimal status ++ codes " " ++ phrase_in reasons status
     ++ codes "\r\n"
 
--- the body is JSON of so many bytes
+-- the body is JSON of a given number of bytes
 unfoldable pub json_lines : ℕ → List ℕ
 json_lines length = codes "Content-Type: application/json\r\nContent-Length: " ++ decimal length
     ++ codes "\r\n"
@@ -64,12 +64,12 @@ extra_lines AllowGet = codes "Allow: GET, OPTIONS\r\n"
 extra_lines AllowPost = codes "Allow: GET, POST, OPTIONS\r\n"
 extra_lines AllowDelete = codes "Allow: GET, DELETE, OPTIONS\r\n"
 
--- the connection ends behind the response where the request asks for it, and where memory ran out
+-- the connection ends after the response where the request asks for it, and where memory ran out
 unfoldable pub connection_line : ℕ → Bool → List ℕ
 connection_line status closes = if closes || status == 503 then codes "Connection: close\r\n"
     else codes "Connection: keep-alive\r\n"
 
--- the head of a response whose body has so many bytes
+-- the head of a response whose body has a given number of bytes
 unfoldable pub response_head : ℕ → Extra → Bool → ℕ → List ℕ
 response_head status extra closes length =
     status_line status ++ content_lines status extra length

@@ -9,12 +9,12 @@ has_line_from begun [] = false
 has_line_from begun (b ∷ bytes) =
     (begun && b == 10) || has_line_from (begun || not (is_newline b)) bytes
 
--- the line has begun behind the bytes
+-- the line has begun after the bytes
 abbrev pub is_begun_behind : Bool → List ℕ → Bool
 is_begun_behind begun [] = begun
 is_begun_behind begun (b ∷ bytes) = is_begun_behind (begun || not (is_newline b)) bytes
 
--- the first so many bytes have no whole line
+-- a front of a given length has no whole line
 pub record HasNoLine (bytes : List ℕ) (seen : ℕ) (begun : Bool) : Type 0 where
   pub within : seen ≤ length bytes
   pub none : has_line_from false (take seen bytes) ≡ false

@@ -1,9 +1,9 @@
 -- The answers to the bytes of a client, whatever the pieces in which they came. (RFC 9112, section
--- 9.3. What is refused, and that nothing is read behind it, is this project's own.)
+-- 9.3. What is refused, and that nothing is read after it, is this project's own.)
 use Rattle.std.specs.Prelude.{◌≡◌, ℕ, ◌<◌, ◌⊎◌, Bool, true, false, List}
 use Rattle.std.specs.Prelude.{[], ◌∷◌, ◌++◌, length, if◌then◌else◌}
 use Rattle.httparse.specs.Grammar.{RequestHead}
-use Rattle.http_wire.specs.Head.{IsFit, IsAwaited, IsRefusedHead}
+use Rattle.http_wire.specs.Head.{IsFit, IsAwaited, IsDoubtful, IsRefusedHead}
 use Rattle.http_wire.specs.Request.{framing_in, request_in}
 use Rattle.http_wire.specs.declared.fields.Framing.TheVariants as framing
 use Rattle.http_wire.specs.declared.request.HttpRequest.{HttpRequest}
@@ -41,11 +41,11 @@ pub data Stand : Type 0 where
   holds : List ℕ → Stand
   ended : Stand
 
--- where it stands behind a request
+-- where it stands after a request
 abbrev pub behind : HttpRequest → List ℕ → Stand
 behind request rest = if request.closes then ended else holds rest
 
--- a piece of the client's bytes, which is not kept behind the end
+-- a piece of the client's bytes, which is not kept after the end
 abbrev pub fed : Stand → List ℕ → Stand
 fed (holds bytes) piece = holds (bytes ++ piece)
 fed ended piece = ended
@@ -75,12 +75,12 @@ answers_of (next.Request request) = whole request ∷ []
 answers_of (next.Bad status) = refused status ∷ []
 answers_of next.Ended = []
 
--- behind a request that closes nothing more is answered, and behind another the answers go on
+-- after a request that closes nothing more is answered, and after another the answers go on
 abbrev pub GoesOn : Bool → Type 0 → List Answer → Stand → Type 0
 GoesOn true Later answers stand = (answers ≡ []) × (stand ≡ ended)
 GoesOn false Later answers stand = Later
 
--- the answers to all the bytes so far, and where they leave the stream: each request, one behind
+-- the answers to all the bytes so far, and where they leave the stream: each request, one after
 -- the other, up to the first that closes, or to what is refused
 abbrev pub IsAnswered : List ℕ → List Answer → Stand → Type 0
 IsAnswered bytes [] stand = stand ≡ holds bytes
@@ -90,7 +90,7 @@ IsAnswered bytes (whole request ∷ answers) stand =
 IsAnswered bytes (refused status ∷ answers) stand = IsRefused bytes status × (answers ≡ [])
     × (stand ≡ ended)
 
--- whatever came and was answered before, the same is answered to it with a piece behind it
+-- whatever came and was answered before, the same is answered to it with a piece after it
 abbrev pub FeedsOn : Stand → List ℕ → Stand → Type 0
 FeedsOn old piece new = (bytes : List ℕ) (answers : List Answer) → IsAnswered bytes answers old
     → IsAnswered (bytes ++ piece) answers new
@@ -99,3 +99,27 @@ FeedsOn old piece new = (bytes : List ℕ) (answers : List Answer) → IsAnswere
 abbrev pub AnswersOn : Stand → Next → Stand → Type 0
 AnswersOn old found new = (bytes : List ℕ) (answers : List Answer) → IsAnswered bytes answers old
     → IsAnswered bytes (answers ++ answers_of found) new
+
+-- there is nothing to answer where a stream stands before more bytes come, or it has ended
+abbrev pub IsSettled : Stand → Type 0
+IsSettled (holds bytes) = IsWaiting bytes
+IsSettled ended = Unit {0}
+
+-- two lists of answers to the bytes begin alike, and the bytes that this front leaves are doubtful
+pub record PartAtDoubtful (bytes : List ℕ) (xs ys : List Answer) : Type 0 where
+  pub front : List Answer
+  pub rest : List ℕ
+  pub answered : IsAnswered bytes front (holds rest)
+  pub doubtful : IsDoubtful rest
+  pub more : List Answer
+  pub other : List Answer
+  pub first : xs ≡ front ++ more
+  pub second : ys ≡ front ++ other
+
+-- Bytes have just one list of answers with which nothing is left to answer, and it leaves the
+-- stream in one place; but after a front of it, bytes that can begin no head within the limits may
+-- be refused sooner or later, and some with one status or another.
+abbrev pub AnswersAreOne : Type 0
+AnswersAreOne = (bytes : List ℕ) (xs ys : List Answer) (s t : Stand)
+    → IsAnswered bytes xs s → IsSettled s → IsAnswered bytes ys t → IsSettled t
+    → ((xs ≡ ys) × (s ≡ t)) ⊎ PartAtDoubtful bytes xs ys

@@ -29,7 +29,7 @@ enum Values {
     Several,
 }
 
-/// Whether two names of fields are alike: case doesn't count.
+/// Whether two names of fields are alike: case does not count.
 fn is_same_name(name: &[u8], other: &[u8]) -> bool
     ensures { result ≡ str_eq_ignore_ascii_case name.now other.now }
 {

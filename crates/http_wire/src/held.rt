@@ -42,7 +42,7 @@ impl Held {
         &self.buffer[self.taken..]
     }
 
-    /// More bytes behind them.
+    /// More bytes after them.
     pub(crate) fn append(&mut self, piece: &[u8]) -> Result<(), NoMemory>
         ensures ok { OnOk result (self.new ≡ self.old ++ piece.now) }
         ensures err { OnErr result (self.new ≡ self.old) }

@@ -1,4 +1,4 @@
-//! What is known of the bytes that are held, so that a head isn't read anew for each byte.
+//! What is known of the bytes that are held, so that a head is not read anew for each byte.
 
 ghost use Rattle.std.specs.Prelude.{◌≡◌, true, IfSome, IfNone};
 ghost use Rattle.http_wire.specs.Found.{IsKnown, IsFront};
@@ -44,8 +44,8 @@ impl Known {
         begun: false,
     };
 
-    /// What is known once more bytes came, where these can't end a head nor make it one that can't
-    /// come; `None` where the head is to be read.
+    /// What is known once more bytes came, where these cannot end a head nor make it one that
+    /// cannot come; `None` where the head is to be read.
     fn go_on(self, bytes: &[u8]) -> Option<Known>
         requires { IsKnown bytes.now self }
         ensures open { IfSome result (λ known. IsOpen bytes.now) }

@@ -174,7 +174,7 @@ fn append_response(
 
 /// Appends a response of a status that is one of [`crate::status`]. Its body is JSON; with the
 /// status 204 and for a preflight there is none, whatever is given. The connection is told to end
-/// where `closes` says so, and with the status 503. Want of memory leaves `out` as it was.
+/// where `closes` says so, and with the status 503. If memory runs out, `out` stays as it was.
 pub fn write_response(
     status: u16,
     extra: Extra,

@@ -3,8 +3,8 @@
 ghost use Rattle.std.specs.Prelude.{◌≡◌, IfSome, IfNone, true, false};
 ghost use Rattle.http_wire.specs.Scan.{has_line_from, is_begun_behind};
 
-/// Whether a first line has begun behind these bytes, and `None` where it ends in them. Line ends
-/// before it don't count.
+/// Whether a first line has begun after these bytes, and `None` where it ends in them. Line ends
+/// before it do not count.
 pub(crate) fn scan_line(begun: bool, bytes: &[u8]) -> Option<bool>
     ensures none { IfNone result (has_line_from begun bytes.now ≡ true) }
     ensures open { IfSome result (λ behind. has_line_from begun bytes.now ≡ false) }

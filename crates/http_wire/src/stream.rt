@@ -18,7 +18,7 @@ pub enum Next {
     Need,
     /// The next request.
     Request(HttpRequest),
-    /// The bytes are refused with this status, and nothing is read behind them.
+    /// The bytes are refused with this status, and nothing is read after them.
     Bad { status: u16 },
     /// The stream has ended: a request closed it, or its bytes were refused.
     Ended,
@@ -72,8 +72,8 @@ impl Stream {
         })
     }
 
-    /// Takes a piece of the client's bytes, which is not kept once the stream has ended. Want of
-    /// memory leaves the stream as it was.
+    /// Takes a piece of the client's bytes, which is not kept once the stream has ended. If memory
+    /// runs out, the stream stays as it was.
     pub fn feed(&mut self, piece: &[u8]) -> Result<(), NoMemory>
         ensures ok { OnOk result (self.new ≡ fed self.old piece.now) }
         ensures err { OnErr result (self.new ≡ self.old) }
@@ -85,8 +85,8 @@ impl Stream {
         self.held.append(piece)
     }
 
-    /// The next answer to the bytes. Want of memory leaves the stream as it was, so the call can be
-    /// made again.
+    /// The next answer to the bytes. If memory runs out, the stream stays as it was, so the call
+    /// can be made again.
     pub fn next(&mut self) -> Result<Next, NoMemory>
         ensures ok { IfOk result (λ next. Steps self.old next self.new) }
         ensures err { OnErr result (self.new ≡ self.old) }

@@ -143,7 +143,7 @@ fn http_stream_limits(rt: HostRuntime) -> Result<(), Fail> {
     Ok(())
 }
 
-/// The answer to a head of so many bytes.
+/// The answer to a head of a given number of bytes.
 fn answer_to_head(alloc: Global, len: usize) -> Result<u16, NoMemory> {
     let target = repeat(alloc, "a", len.saturating_sub(18))?;
     let mut bytes = join(alloc, &["GET /"])?;
@@ -152,7 +152,7 @@ fn answer_to_head(alloc: Global, len: usize) -> Result<u16, NoMemory> {
     Ok(number_of(&first_answer(alloc, bytes.as_slice())?))
 }
 
-/// The answer to a head of so many fields.
+/// The answer to a head of a given number of fields.
 fn answer_to_fields(alloc: Global, count: usize) -> Result<u16, NoMemory> {
     let fields = repeat(alloc, "a: b\r\n", count)?;
     let mut bytes = join(alloc, &["GET / HTTP/1.1\r\n"])?;
@@ -171,7 +171,7 @@ fn longest_heads(rt: HostRuntime) -> Result<(), Fail> {
     Ok(())
 }
 
-/// The answer to so many bytes that begin so, and go on with a letter.
+/// The answer to a given number of bytes that begin so, and go on with a letter.
 fn answer_to_endless(alloc: Global, front: &[u8], len: usize) -> Result<u16, NoMemory> {
     let letters = repeat(alloc, "a", len.saturating_sub(front.len()))?;
     let mut bytes = Vec::from_slice(alloc, front)?;
@@ -315,7 +315,7 @@ fn methods_and_paths(rt: HostRuntime) -> Result<(), Fail> {
     Ok(())
 }
 
-/// A response, behind bytes that were there.
+/// A response, after bytes that were there.
 fn check_response(
     rt: &impl Abort,
     alloc: Global,
