@@ -22,28 +22,29 @@ use Rattle.input_rule.specs.Words.{HasTick, block_len}
 use Rattle.input_rule.proofs.Blocks.{spells}
 use Rattle.input_cells.specs.Agreement.{Agrees, AreHeard, AreSeen, AreSights, HasHeard, IsHeardOf}
 use Rattle.input_cells.specs.Agreement.{any_sight, has_tick, is_sight, sees}
-use Rattle.input_cells.specs.Faces.{Grows, GrowsAt, HasInput, HasShape, HasView, InputFace}
-use Rattle.input_cells.specs.Faces.{IsReadOf, SeatFace, face_of, heard_of, looks_of}
+use Rattle.input_cells.specs.Faces.{Grows, GrowsAt, HasInput, HasShape, HasView, HearsAt}
+use Rattle.input_cells.specs.Faces.{InputFace, IsReadOf, OnlyHears, SeatFace, face_of, heard_of}
+use Rattle.input_cells.specs.Faces.{looks_of}
 use Rattle.input_cells.specs.Shapes.{IsTableOf, shape_of}
 use Rattle.input_cells.proofs.Agreeing.{range_at, shape_in}
-use Rattle.input_cells.proofs.Growing.{grows_then, keeps_seen, last_among}
-use Rattle.input_cells.proofs.Growing.{listened_more, on_all, on_among, still_at}
+use Rattle.input_cells.proofs.Growing.{all_hear_still, hears_grow, hears_more, hears_still}
+use Rattle.input_cells.proofs.Growing.{hears_then, keeps_seen, last_among, on_all, on_among}
 use Rattle.input_cells.proofs.Passes.{as_many, face_at}
 use Rattle.input_cells.proofs.Starting.{as_inputs}
 
 -- ---- one by one
 
--- so many samples were read, each at its place
+-- a given number of samples were read, each at its place
 pub record IsCopied (before now : SeatFace) (tick first step : ℕ) (old out : List ℤ)
     (count : ℕ) : Type 0 where
-  pub grows : GrowsAt before now
+  pub hears : HearsAt before now
   pub heard : (n : ℕ) → n < count → HasHeard now.view tick (first + n * step) (get_or out n (pos 0))
   pub len : length out ≡ length old
 
 pub copied_none : (a : SeatFace) (tick first step : ℕ) (out : List ℤ)
     → IsCopied a a tick first step out out 0
 copied_none a tick first step out =
-    record { grows = still_at a; heard = λ n lt. absurd (omega arith); len = refl }
+    record { hears = hears_still a; heard = λ n lt. absurd (omega arith); len = refl }
 
 heard_on : (p q : SeatFace) (tick place : ℕ) (value : ℤ) → GrowsAt p q
     → HasHeard p.view tick place value → HasHeard q.view tick place value
@@ -62,9 +63,9 @@ pub copied_more : (a b c : SeatFace) (tick first step : ℕ) (old out : List ℤ
     → n < length old
     → IsCopied a c tick first step old (set out n value) (n + 1)
 copied_more a b c tick first step old out n place value i is at lt =
-    let more : GrowsAt b c = subst (GrowsAt b) (sym is) (listened_more b tick place value) in
+    let more : HearsAt b c = subst (HearsAt b) (sym is) (hears_more b tick place value) in
     record {
-      grows = grows_then a b c i.grows more;
+      hears = hears_then a b c i.hears more;
       heard = λ k below. dite (ℕ_discrete k n)
           (λ one. subst (λ (z : ℕ × ℤ). HasHeard c.view tick z.0 z.1)
           (λ j. (
@@ -74,7 +75,7 @@ copied_more a b c tick first step old out n place value i is at lt =
           )) new)
           (λ apart. subst (HasHeard c.view tick (first + k * step))
           (sym (get_or-set_other out n k value (pos 0) apart))
-          (heard_on b c tick (first + k * step) (get_or out k (pos 0)) more
+          (heard_on b c tick (first + k * step) (get_or out k (pos 0)) (hears_grow b c more)
           (i.heard k (omega arith))));
       len = length-set out n value ∙ i.len;
     }
@@ -127,15 +128,11 @@ silent channels channel frame (suc n) = λ k. pos 0 ∷ silent channels channel 
 
 -- ---- all inputs
 
-pub grows_set : (pass : List SeatFace) (i : ℕ) (d new : SeatFace) → GrowsAt (get_or pass i d) new
-    → Grows pass (set pass i new)
-grows_set [] i d new g = tt
-grows_set (p ∷ ps) zero d new g = (g, still ps)
-  where
-    still : (qs : List SeatFace) → Grows qs qs
-    still [] = tt
-    still (q ∷ qs) = (still_at q, still qs)
-grows_set (p ∷ ps) (suc i) d new g = (still_at p, grows_set ps i d new g)
+pub hears_set : (pass : List SeatFace) (i : ℕ) (d new : SeatFace) → HearsAt (get_or pass i d) new
+    → OnlyHears pass (set pass i new)
+hears_set [] i d new g = tt
+hears_set (p ∷ ps) zero d new g = (g, all_hear_still ps)
+hears_set (p ∷ ps) (suc i) d new g = (hears_still p, hears_set ps i d new g)
 
 pub set_had : (P : View → Type 0) (pass : List SeatFace) (i : ℕ) (new : SeatFace)
     → HasView (set pass i new) i P → P new.view
@@ -284,12 +281,12 @@ view_held P X [] i f h = absurd h
 view_held P X (p ∷ ps) zero f h = f p (omega arith) h
 view_held P X (p ∷ ps) (suc i) f h = view_held P X ps i (λ d lt. f d (omega arith)) h
 
-looks_at : (P : Look → Type 0) (pass : List SeatFace) (k : ℕ) (d : SeatFace) → k < length pass
+looks_held : (P : Look → Type 0) (pass : List SeatFace) (k : ℕ) (d : SeatFace) → k < length pass
     → All P (looks_of pass) → All P (get_or pass k d).view.looks
-looks_at P [] k d lt h = absurd (omega arith)
-looks_at P (p ∷ ps) zero d lt h = All-left P p.view.looks (looks_of ps) h
-looks_at P (p ∷ ps) (suc k) d lt h =
-    looks_at P ps k d (omega arith) (All-right P p.view.looks (looks_of ps) h)
+looks_held P [] k d lt h = absurd (omega arith)
+looks_held P (p ∷ ps) zero d lt h = All-left P p.view.looks (looks_of ps) h
+looks_held P (p ∷ ps) (suc k) d lt h =
+    looks_held P ps k d (omega arith) (All-right P p.view.looks (looks_of ps) h)
 
 heard_at : (P : Heard → Type 0) (pass : List SeatFace) (k : ℕ) (d : SeatFace) → k < length pass
     → All P (heard_of pass) → All P (get_or pass k d).view.heard
@@ -334,7 +331,7 @@ agreeing d from ticks table pass tick flags blocks of_it is seen a = record {
         let number : v.shape.input ≡ input = ap (λ (z : Shape). z.input) shape in
         let saw = All-contains (λ (l : Look). l.present ≡ true
         → is_some (blocks l.input l.tick) ≡ true) v.looks h.look
-        (looks_at (λ (l : Look). l.present ≡ true → is_some (blocks l.input l.tick) ≡ true) pass
+        (looks_held (λ (l : Look). l.present ≡ true → is_some (blocks l.input l.tick) ≡ true) pass
         input e lt a.seen) h.among in
         let few : input < length d.inputs =
         (let n = as_inputs d from ticks table of_it in omega arith) in

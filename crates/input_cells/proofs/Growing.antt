@@ -2,7 +2,7 @@
 use Rattle.std.proofs.Common.{◌≡◌, ℕ, zero, suc, ◌<◌, List, [], ◌∷◌, ◌++◌, length, map, get_or}
 use Rattle.std.proofs.Common.{refl, sym, ap, ◌∙◌, subst, arith, append_assoc, true, false, Bool}
 use Rattle.std.proofs.lemmas.List.{append-nil, get_or_append_left, length-append}
-use Rattle.std.proofs.lemmas.List.Elements.{All-append}
+use Rattle.std.proofs.lemmas.List.Elements.{All-append, All-nil, All-push}
 use Rattle.std.specs.Prelude.{None, is_some, ℤ}
 use Rattle.std.specs.List.{All, Contains}
 use Rattle.list_laws.proofs.Items.{All-left, All-right}
@@ -11,10 +11,11 @@ use Rattle.input_rule.specs.declared.view.Heard.{Heard}
 use Rattle.input_rule.specs.declared.view.Look.{Look}
 use Rattle.input_rule.specs.declared.view.View.{View}
 use Rattle.input_rule.specs.Views.{HasMissed, HasSeen, closed_of, listened, looked, saw}
-use Rattle.input_cells.specs.Faces.{GoesOn, Grows, GrowsAt, HasView, InputFace, SeatFace, changed}
-use Rattle.input_cells.specs.Faces.{face_of, heard_of, looks_of}
+use Rattle.input_cells.specs.Faces.{GoesOn, Grows, GrowsAt, HasView, HearsAt, InputFace}
+use Rattle.input_cells.specs.Faces.{OnlyHears, SeatFace, changed, face_of, heard_of, looks_of}
+use Rattle.input_cells.specs.Looking.{IsUntouched}
 use Rattle.input_cells.specs.PassesGrow.{AgreesBefore, GrowsOn, KeepsMissed, KeepsSeen}
-use Rattle.input_cells.specs.PassesGrow.{StaysOfTable}
+use Rattle.input_cells.specs.PassesGrow.{HearingGrows, OwnLooksStay, StaysOfTable, UnreadHasOwn}
 
 -- ---- lists that go on
 
@@ -55,6 +56,7 @@ still_at p = record {
   closings = on_still p.view.closings;
   looks = on_still p.view.looks;
   heard = on_still p.view.heard;
+  own = λ h. h;
 }
 
 pub grows_then : (p q r : SeatFace) → GrowsAt p q → GrowsAt q r → GrowsAt p r
@@ -63,6 +65,7 @@ grows_then p q r f g = record {
   closings = on_then p.view.closings q.view.closings r.view.closings f.closings g.closings;
   looks = on_then p.view.looks q.view.looks r.view.looks f.looks g.looks;
   heard = on_then p.view.heard q.view.heard r.view.heard f.heard g.heard;
+  own = λ h. g.own (f.own h);
 }
 
 pub seen_on : (p q : SeatFace) (tick : ℕ) → GrowsAt p q → HasSeen p.view tick → HasSeen q.view tick
@@ -93,6 +96,7 @@ saw_more p number = record {
   closings = (number ∷ [], refl);
   looks = on_still p.view.looks;
   heard = on_still p.view.heard;
+  own = λ h. h;
 }
 
 pub looked_more : (p : SeatFace) (tick : ℕ) (present : Bool)
@@ -102,6 +106,7 @@ looked_more p tick present = record {
   closings = on_still p.view.closings;
   looks = (_, refl);
   heard = on_still p.view.heard;
+  own = λ h. All-push (λ (l : Look). l.input ≡ p.view.shape.input) p.view.looks _ h refl;
 }
 
 pub listened_more : (p : SeatFace) (tick place : ℕ) (value : ℤ)
@@ -111,7 +116,39 @@ listened_more p tick place value = record {
   closings = on_still p.view.closings;
   looks = on_still p.view.looks;
   heard = (_, refl);
+  own = λ h. h;
 }
+
+-- ---- samples alone
+
+pub hears_still : (p : SeatFace) → HearsAt p p
+hears_still p = (
+  [],
+  ap (λ (l : List Heard). record p { view = record p.view { heard = l } })
+      (sym (append-nil p.view.heard)),
+)
+
+pub hears_then : (p q r : SeatFace) → HearsAt p q → HearsAt q r → HearsAt p r
+hears_then p q r f g = (
+  f.0 ++ g.0,
+  g.1
+      ∙ (ap (λ (z : SeatFace). record z { view = record z.view { heard = z.view.heard ++ g.0 } }) f.1
+      ∙ ap (λ (l : List Heard). record p { view = record p.view { heard = l } })
+      (append_assoc p.view.heard f.0 g.0)),
+)
+
+pub hears_more : (p : SeatFace) (tick place : ℕ) (value : ℤ)
+    → HearsAt p (record p { view = listened p.view tick place value })
+hears_more p tick place value = (_, refl)
+
+pub hears_grow : (p q : SeatFace) → HearsAt p q → GrowsAt p q
+hears_grow p q f = subst (GrowsAt p) (sym f.1) (record {
+  face = refl;
+  closings = on_still p.view.closings;
+  looks = on_still p.view.looks;
+  heard = (f.0, refl);
+  own = λ h. h;
+})
 
 -- a look that saw the block is one that saw it
 pub looked_seen : (v : View) (tick : ℕ) (present : Bool) → present ≡ true
@@ -207,3 +244,68 @@ agrees_before d blocks before after f a = record {
       a.read;
   shape = a.shape;
 }
+
+-- ---- looks at an input are looks at that input
+
+grown_long : (before after : List SeatFace) → Grows before after → length after ≡ length before
+grown_long [] [] f = refl
+grown_long [] (q ∷ qs) f = absurd f
+grown_long (p ∷ ps) [] f = absurd f
+grown_long (p ∷ ps) (q ∷ qs) f = ap suc (grown_long ps qs f.1)
+
+-- looks that are at their own inputs stay so
+pub own_grown : OwnLooksStay
+own_grown [] after f h k d lt = absurd (let e = grown_long [] after f in omega (arith, e, lt))
+own_grown (p ∷ ps) [] f h k d lt = absurd f
+own_grown (p ∷ ps) (q ∷ qs) f h zero d lt = f.0.own (h 0 p (omega arith))
+own_grown (p ∷ ps) (q ∷ qs) f h (suc k) d lt =
+    own_grown ps qs f.1 (λ i e low. h (suc i) e (omega arith)) k d (omega arith)
+
+pub unread_own : UnreadHasOwn
+unread_own [] k d lt = absurd (omega arith)
+unread_own (t ∷ ts) zero d lt = All-nil (λ (l : Look). l.input ≡ t.shape.input)
+unread_own (t ∷ ts) (suc k) d lt = unread_own ts k d (omega arith)
+
+-- ---- a pass that only read samples
+
+pub all_hear_still : (pass : List SeatFace) → OnlyHears pass pass
+all_hear_still [] = tt
+all_hear_still (p ∷ ps) = (hears_still p, all_hear_still ps)
+
+pub all_hear_then : (a b c : List SeatFace) → OnlyHears a b → OnlyHears b c → OnlyHears a c
+all_hear_then [] [] c f g = g
+all_hear_then [] (q ∷ qs) c f g = absurd f
+all_hear_then (p ∷ ps) [] c f g = absurd f
+all_hear_then (p ∷ ps) (q ∷ qs) [] f g = absurd g
+all_hear_then (p ∷ ps) (q ∷ qs) (r ∷ rs) f g =
+    (hears_then p q r f.0 g.0, all_hear_then ps qs rs f.1 g.1)
+
+pub all_hear_grow : (before after : List SeatFace) → OnlyHears before after → Grows before after
+all_hear_grow [] [] f = tt
+all_hear_grow [] (q ∷ qs) f = absurd f
+all_hear_grow (p ∷ ps) [] f = absurd f
+all_hear_grow (p ∷ ps) (q ∷ qs) f = (hears_grow p q f.0, all_hear_grow ps qs f.1)
+
+pub looks_heard : (before after : List SeatFace) → OnlyHears before after
+    → looks_of after ≡ looks_of before
+looks_heard [] [] f = refl
+looks_heard [] (q ∷ qs) f = absurd f
+looks_heard (p ∷ ps) [] f = absurd f
+looks_heard (p ∷ ps) (q ∷ qs) f =
+    λ k. ap (λ (z : SeatFace). z.view.looks) f.0.1 k ++ looks_heard ps qs f.1 k
+
+pub untouched_heard : (before after : List SeatFace) → OnlyHears before after → (input : ℕ)
+    → IsUntouched before after input
+untouched_heard [] [] f input = (refl, refl)
+untouched_heard [] (q ∷ qs) f input = absurd f
+untouched_heard (p ∷ ps) [] f input = absurd f
+untouched_heard (p ∷ ps) (q ∷ qs) f zero =
+    (ap (λ (z : SeatFace). z.view.looks) f.0.1, ap (λ (z : SeatFace). z.view.closings) f.0.1)
+untouched_heard (p ∷ ps) (q ∷ qs) f (suc input) = untouched_heard ps qs f.1 input
+
+pub hearing_grows : HearingGrows
+hearing_grows before after f = (
+  all_hear_grow before after f,
+  looks_heard before after f,
+  λ input. untouched_heard before after f input,
+)

@@ -10,4 +10,4 @@ pub mod Starting
 pub mod Growing
 pub mod Copying
 pub mod Feeders
-pub mod Since
+pub mod Once

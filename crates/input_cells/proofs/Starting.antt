@@ -1,13 +1,16 @@
 -- The passes of a table that was just started.
-use Rattle.std.proofs.Common.{◌≡◌, ℕ, ◌+◌, List, [], ◌∷◌, length, map, get_or, replicate, refl, sym}
+use Rattle.std.proofs.Common.{◌≡◌, ℕ, zero, suc, ◌+◌, ◌<◌, List, [], ◌∷◌, length, map, get_or, replicate, refl, sym}
 use Rattle.std.proofs.Common.{ap, ◌∙◌, subst, arith, false}
 use Rattle.std.proofs.lemmas.List.{length-map}
 use Rattle.std.specs.Prelude.{Bool, Option, Some, is_none}
 use Rattle.std.specs.List.{All, AllZip}
 use Rattle.io_caps.specs.declared.device.DeviceParts.{DeviceParts}
 use Rattle.input_rule.specs.declared.view.Shape.{Shape}
-use Rattle.input_cells.specs.Faces.{AreFeeds, AreNumbered, InputFace, IsKept, SeatFace, face_of}
+use Rattle.input_rule.specs.Words.{HasTick}
+use Rattle.input_cells.specs.Faces.{AreFeeds, AreNumbered, HasShape, InputFace, IsKept, SeatFace}
+use Rattle.input_cells.specs.Faces.{face_of}
 use Rattle.input_cells.specs.Faces.{unfed, unread}
+use Rattle.input_cells.specs.PassesGrow.{HasItsTicks}
 use Rattle.input_cells.specs.Shapes.{IsTableOf, shape_of}
 use Rattle.input_cells.proofs.Agreeing.{range_at, range_long, shape_in}
 
@@ -27,7 +30,25 @@ numbered_table d from ticks table of_it k e lt =
     ∙ range_at (shape_of d from ticks) 0 (length d.inputs + 1) k e.shape (omega arith)))
     ∙ omega arith
 
-faces_unread : (table : List InputFace) → map face_of (map unread table) ≡ table
+shape_held : (P : Shape → Type 0) (table : List InputFace) (k : ℕ) (d : InputFace)
+    → k < length table → P (get_or table k d).shape → HasShape table k P
+shape_held P [] k d lt h = absurd (omega arith)
+shape_held P (t ∷ ts) zero d lt h = h
+shape_held P (t ∷ ts) (suc k) d lt h = shape_held P ts k d (omega arith) h
+
+-- a table of a device has each of its ticks at each input
+pub has_its_ticks : HasItsTicks
+has_its_ticks d from ticks [] of_it tick low high input there = absurd (omega (arith, there))
+has_its_ticks d from ticks (t ∷ ts) of_it tick low high input there =
+    let n = as_inputs d from ticks (t ∷ ts) of_it in
+    shape_held (λ s. HasTick s tick) (t ∷ ts) input t (omega (arith, there))
+    (subst (λ (s : Shape). HasTick s tick)
+    (sym (shape_in (t ∷ ts) input t
+    ∙ (ap (λ (l : List Shape). get_or l input t.shape) of_it
+    ∙ range_at (shape_of d from ticks) 0 (length d.inputs + 1) input t.shape (omega (arith, n, there)))))
+    (low, high))
+
+pub faces_unread : (table : List InputFace) → map face_of (map unread table) ≡ table
 faces_unread [] = refl
 faces_unread (t ∷ ts) = λ k. t ∷ faces_unread ts k
 

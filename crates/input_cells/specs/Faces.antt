@@ -83,16 +83,34 @@ changed f (suc input) (p ∷ ps) = p ∷ changed f input ps
 abbrev pub GoesOn : {A : Type 0} → List A → List A → Type 0
 GoesOn {A} before after = (more : List A) × (after ≡ before ++ more)
 
--- what a pass knows of one input only grew
+-- the looks that are kept of an input are looks at that input
+abbrev pub HasOwnLooks : View → Type 0
+HasOwnLooks v = All (λ l. l.input ≡ v.shape.input) v.looks
+
+-- so it is at each input
+abbrev pub AreOwnLooks : List SeatFace → Type 0
+AreOwnLooks pass = All (λ p. HasOwnLooks p.view) pass
+
+-- what a pass knows of one input only grew, by looks at that input
 pub record GrowsAt (before after : SeatFace) : Type 0 where
   pub face : face_of after ≡ face_of before
   pub closings : GoesOn before.view.closings after.view.closings
   pub looks : GoesOn before.view.looks after.view.looks
   pub heard : GoesOn before.view.heard after.view.heard
+  pub own : HasOwnLooks before.view → HasOwnLooks after.view
 
 -- what a pass knows only grew
 abbrev pub Grows : List SeatFace → List SeatFace → Type 0
 Grows before after = AllZip GrowsAt before after
+
+-- of one input a pass read samples, and did nothing else
+abbrev pub HearsAt : SeatFace → SeatFace → Type 0
+HearsAt before after = (more : List Heard)
+    × (after ≡ record before { view = record before.view { heard = before.view.heard ++ more } })
+
+-- a pass read samples, and did nothing else
+abbrev pub OnlyHears : List SeatFace → List SeatFace → Type 0
+OnlyHears before after = AllZip HearsAt before after
 
 -- all looks of a pass, input by input
 abbrev pub looks_of : List SeatFace → List Look

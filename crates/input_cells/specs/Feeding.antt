@@ -56,7 +56,7 @@ pub record StoresSample (before after : SeatFace) (tick place : ℕ) (sample : �
   pub spells : sample_of word ≡ sample
   pub stored : Stores before after (sample_word before.view.shape tick place) word
 
--- so many samples of a block were stored, and no presence or closing number
+-- a given number of samples of a block were stored, and no presence or closing number
 pub record Spells (before after : SeatFace) (tick : ℕ) (block : List ℤ) (count : ℕ) : Type 0 where
   pub on : FeedsOn before after
   pub low : (word : ℕ) → word ≤ before.view.shape.ticks

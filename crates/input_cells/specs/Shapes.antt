@@ -23,7 +23,7 @@ shape_of d from ticks input =
 abbrev pub shapes_of : DeviceParts → ℕ → ℕ → List Shape
 shapes_of d from ticks = map (shape_of d from ticks) (range_with_len 0 (length d.inputs + 1))
 
--- it is a table of the device, from a tick on and for so many ticks
+-- it is a table of the device, from a tick on and for a given number of ticks
 abbrev pub IsTableOf : DeviceParts → ℕ → ℕ → List InputFace → Type 0
 IsTableOf d from ticks table = map (λ t. t.shape) table ≡ shapes_of d from ticks
 

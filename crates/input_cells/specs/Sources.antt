@@ -1,43 +1,26 @@
 -- What stays of a pass that is lent to the packet writer. (This project's own.)
 use Rattle.std.specs.Prelude.{ℕ, ◌≡◌, Bool, List}
-use Rattle.input_cells.specs.Faces.{Grows, InputFace, SeatFace}
+use Rattle.input_cells.specs.Faces.{InputFace, OnlyHears, SeatFace}
 
--- a lent pass: who lent it, its table, the tick, and what it knows
+-- a lent pass: who lent it, its table, the tick, the flags of the inputs whose blocks it saw, and
+-- what it knows
 pub record LentFace : Type 0 where
   pub lender : ℕ
   pub table : List InputFace
   pub tick : ℕ
+  pub flags : List Bool
   pub pass : List SeatFace
 
--- the pass that this lender lent, with its table, the tick and what it knows
-abbrev pub lent_face : ℕ → List InputFace → ℕ → List SeatFace → LentFace
-lent_face lender table tick pass =
-    record { lender = lender; table = table; tick = tick; pass = pass }
+-- the pass that this lender lent, with its table, the tick, the flags and what it knows
+abbrev pub lent_face : ℕ → List InputFace → ℕ → List Bool → List SeatFace → LentFace
+lent_face lender table tick flags pass =
+    record { lender = lender; table = table; tick = tick; flags = flags; pass = pass }
 
--- it is the same pass at the same table and tick, and what it knows grew from all that it grew from
--- before
+-- It is the same pass at the same table, tick and flags. From whatever it had only read samples
+-- before, it has only read samples still.
 pub record StaysLent (before after : LentFace) : Type 0 where
   pub lender : after.lender ≡ before.lender
   pub table : after.table ≡ before.table
   pub tick : after.tick ≡ before.tick
-  pub grows : (first : List SeatFace) → Grows first before.pass → Grows first after.pass
-
--- a lent pass with the flags of the inputs whose blocks it saw
-pub record SeenFace : Type 0 where
-  pub lent : LentFace
-  pub flags : List Bool
-
--- the pass and the flags stay
-pub record StaysSeen (before after : SeenFace) : Type 0 where
-  pub lent : StaysLent before.lent after.lent
   pub flags : after.flags ≡ before.flags
-
--- a lent pass with what it knew when it was lent
-pub record LookFace : Type 0 where
-  pub lent : LentFace
-  pub first : List SeatFace
-
--- the pass stays, and what it knew when it was lent
-pub record StaysLooking (before after : LookFace) : Type 0 where
-  pub lent : StaysLent before.lent after.lent
-  pub first : after.first ≡ before.first
+  pub hears : (first : List SeatFace) → OnlyHears first before.pass → OnlyHears first after.pass

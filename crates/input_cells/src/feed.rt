@@ -77,7 +77,7 @@ impl FeedPass {
         self.closed
     }
 
-    /// Whether a block of so many samples has the shape of an input.
+    /// Whether a block of a given number of samples has the shape of an input.
     fn fits(&self, samples: usize) -> bool
         ensures { IsTrue result
             ↔ (FeedsInput self.now × (samples ≡ block_len self.now.view.shape)) }

@@ -51,7 +51,7 @@ fn take_pass(place: &mut Option<FeedPass>) -> Result<FeedPass, NoSeat>
 }
 
 impl Feeds {
-    /// The pass of the feeder of an input, or of the pace, whose number is the next one behind the
+    /// The pass of the feeder of an input, or of the pace, whose number is the next one after the
     /// inputs. Refused exactly where it was given before.
     pub fn feed(&mut self, table: &InputTable, input: u8) -> Result<FeedPass, NoSeat>
         requires table { self.old.table ≡ table.now }

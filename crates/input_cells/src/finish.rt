@@ -31,12 +31,14 @@ impl InputTable {
     /// Ends the table, which takes no memory. The feeders' passes are those of the inputs, by their
     /// numbers, and the pace's. What each reader saw agrees with the blocks set: a block that it
     /// saw was set, a sample that it read is the one of the block, and where it found no block
-    /// after it had seen a closing number above the tick, none was set.
+    /// after it had seen a closing number above the tick, none was set. It is true of the feeders'
+    /// last words too: no number after which it looked is above the one at which its feeder stands.
     pub fn end(self, feeds: FeedPasses, readers: ReadPasses)
         requires feeds { map face_of feeds ≡ self }
         requires readers { All (IsReadOf self) readers }
-        ensures { (d : DeviceParts) (from ticks : ℕ) → IsTableOf d from ticks self
+        ensures agree { (d : DeviceParts) (from ticks : ℕ) → IsTableOf d from ticks self
             → All (λ r. Agrees d (looks_of r) (heard_of r) (blocks_set feeds)) readers }
+        ensures words { All (AreTrueOf feeds) readers }
     {
         let mut feeds = feeds.into_vec();
         let mut readers = readers.into_vec();

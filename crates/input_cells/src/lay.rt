@@ -34,7 +34,7 @@ fn channels(device: &Device, input: usize) -> u64
     }
 }
 
-/// The table of an input, or of the pace, from a tick on and for so many ticks.
+/// The table of an input, or of the pace, from a tick on and for a given number of ticks.
 fn shape(device: &Device, from: u64, ticks: u64, input: usize) -> Shape
     requires ticks { ticks ≤ LAP_TICKS }
     requires input { input ≤ length device.now.inputs }
@@ -63,7 +63,8 @@ fn most_channels(device: &Device) -> u64
     most
 }
 
-/// The words of a table of so many words to which nothing was fed: the first tick, and then zeros.
+/// The words of a table of a given number of words to which nothing was fed: the first tick, and
+/// then zeros.
 fn first_row(alloc: Global, from: u64, len: usize) -> Result<Vec<u64>, NoMemory>
     requires { 1 ≤ len }
     ensures { IfOk result (λ row. row.items ≡ from ∷ replicate (len - 1) 0) }
@@ -144,7 +145,7 @@ impl ReadPass {
         Ok(ReadPass { seats })
     }
 
-    /// So many passes of the same table that have seen nothing.
+    /// A given number of passes of the same table that have seen nothing.
     pub(crate) fn copies(
         &mut self,
         alloc: Global,

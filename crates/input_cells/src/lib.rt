@@ -17,7 +17,7 @@ mod ticks;
 pub use block_builder::Block;
 pub use feed::{AlreadySet, FeedPass};
 pub use feeds::Feeds;
-pub use looking::{ClosedLooks, FreeLooks};
+pub use looking::StillOpen;
 pub use read::ReadPass;
 pub use source::SeenSamples;
 pub use table::InputTable;

@@ -1,187 +1,108 @@
-//! Looks of a reader's pass at the blocks of one tick, for the packet writer.
+//! Looks of a reader's pass at the inputs that a packet names, at its tick.
 
-ghost use Rattle.std.specs.Prelude.{◌≡◌};
-ghost use Rattle.input_cells.specs.Faces.{IsReadOf};
-ghost use Rattle.input_cells.specs.Looking.{HasTickEach, HasTicks, KnowsNoLess};
+ghost use Rattle.std.specs.Prelude.{◌≡◌, ◌≢◌, ◌+◌, ◌≤◌, ℕ, IfErr, IfOk, OnOk, length};
+ghost use Rattle.std.specs.List.{All};
+ghost use Rattle.io_caps.specs.declared.limits.TheConstants.{MOST_INPUTS};
+ghost use Rattle.input_rule.specs.Words.{HasTick};
+ghost use Rattle.packet_writer.specs.Packet.{flag_of};
+ghost use Rattle.input_cells.specs.Agreement.{AreSeen};
+ghost use Rattle.input_cells.specs.Faces.{AreNumbered, Grows, HasInput, HasShape, IsReadOf};
+ghost use Rattle.input_cells.specs.Faces.{looks_of};
+ghost use Rattle.input_cells.specs.Looking.{HasTickEach, IsLate, IsOpenAt, IsOpenHere};
+ghost use Rattle.input_cells.specs.Looking.{IsUntouched, LookedClosed, SeesClosed, SeesFree};
 
 use crate::read::ReadPass;
 use crate::table::InputTable;
-use packet_writer::Looks;
-use std::snapshot::Snapshot;
 
-/// Looks at the blocks of one tick, each by one load, wherever the tick's closing stands.
-#[derive(Drop)]
-pub struct FreeLooks<'a> {
-    pub table: &'a InputTable,
-    pub pass: &'a mut ReadPass,
-    pub tick: u64,
-    /// What the pass knew before.
-    pub first: &'a Snapshot<ReadPass>,
-    ghost of_table: { IsReadOf table.now pass.now },
-    ghost has_tick: { HasTicks table.now tick },
-    ghost no_less: { KnowsNoLess first.now.value pass.now tick },
-}
-
-impl<'a> FreeLooks<'a> {
-    /// The looks of a pass at a tick, with what it knows before them.
-    pub fn new(
-        table: &'a InputTable,
-        pass: &'a mut ReadPass,
-        first: &'a Snapshot<ReadPass>,
-        tick: u64,
-    ) -> FreeLooks<'a>
-        requires pass { IsReadOf table.now pass.old }
-        requires tick { HasTickEach table.now tick }
-        requires first { first.now.value ≡ pass.old }
-        ensures lender { result.pass.ghost_name ≡ pass.entry.ghost_name }
-        ensures pass { result.pass.now ≡ pass.old }
-        ensures table { result.table.now ≡ table.now }
-        ensures tick { result.tick ≡ tick }
-        ensures first { result.first.now.value ≡ first.now.value }
-    {
-        FreeLooks {
-            table,
-            pass,
-            tick,
-            first,
-        }
-    }
-}
-
-impl<'a> Looks for FreeLooks<'a> {
-    ghost use Rattle.input_cells.specs.Looking.{FindsFree};
-    ghost use Rattle.input_cells.specs.Sources.{StaysLooking, lent_face};
-    ghost use Rattle.std.specs.Prelude.{refl};
-    ghost use Rattle.std.proofs.Common.{◌∙◌};
-
-    ghost sees = { λ s input there.
-        FindsFree s.table.now s.first.now.value s.pass.now s.tick input there };
-
-    ghost untold = { λ s input. ⊥ };
-
-    ghost stays = { λ before after. StaysLooking
-        (record {
-          lent = lent_face before.pass.ghost_name before.table.now before.tick before.pass.now;
-          first = before.first.now.value;
-        })
-        (record {
-          lent = lent_face after.pass.ghost_name after.table.now after.tick after.pass.now;
-          first = after.first.now.value;
-        }) };
-
-    ghost onward = { record {
-      still = λ a. record {
-        lent = record { lender = refl; table = refl; tick = refl; grows = λ p h. h };
-        first = refl;
-      };
-      on = λ a b c f g. record {
-        lent = record {
-          lender = g.lent.lender ∙ f.lent.lender;
-          table = g.lent.table ∙ f.lent.table;
-          tick = g.lent.tick ∙ f.lent.tick;
-          grows = λ p h. g.lent.grows p (f.lent.grows p h);
-        };
-        first = g.first ∙ f.first;
-      };
-    } };
-
-    fn look(&mut self, input: u8) -> Option<bool> {
-        if input as usize >= self.table.inputs() {
-            return Some(false);
-        }
-        Some(self.pass.look(self.table, input, self.tick))
-    }
-}
-
-/// Looks at the blocks of one tick behind a load of each input's closing number: where the tick
-/// isn't closed it can't be told whether there is a block.
-#[derive(Drop)]
-pub struct ClosedLooks<'a> {
-    pub table: &'a InputTable,
-    pub pass: &'a mut ReadPass,
-    pub tick: u64,
-    /// The closing number that was loaded last.
+/// The closing number of an input, or of the pace, is not above a tick.
+#[derive(Clone, Copy, Debug, PartialEq, Eq)]
+pub struct StillOpen {
+    /// The input; the pace has the next number after the inputs.
+    pub input: u8,
     pub closed: u64,
-    /// What the pass knew before.
-    pub first: &'a Snapshot<ReadPass>,
-    ghost of_table: { IsReadOf table.now pass.now },
-    ghost has_tick: { HasTicks table.now tick },
-    ghost no_less: { KnowsNoLess first.now.value pass.now tick },
 }
 
-impl<'a> ClosedLooks<'a> {
-    /// The looks of a pass at a tick, with what it knows before them.
-    pub fn new(
-        table: &'a InputTable,
-        pass: &'a mut ReadPass,
-        first: &'a Snapshot<ReadPass>,
-        tick: u64,
-    ) -> ClosedLooks<'a>
-        requires pass { IsReadOf table.now pass.old }
+impl ReadPass {
+    /// Looks once at each input whose flag is set, in order, whatever the tick's closing is, and
+    /// leaves the flag set where the block is there. There is a flag for each input.
+    pub fn look_free(&mut self, table: &InputTable, tick: u64, flags: &mut [bool])
+        requires pass { IsReadOf table.now self.old }
         requires tick { HasTickEach table.now tick }
-        requires first { first.now.value ≡ pass.old }
-        ensures lender { result.pass.ghost_name ≡ pass.entry.ghost_name }
-        ensures pass { result.pass.now ≡ pass.old }
-        ensures table { result.table.now ≡ table.now }
-        ensures tick { result.tick ≡ tick }
-        ensures first { result.first.now.value ≡ first.now.value }
+        requires flags { length table.now ≡ length flags.old + 1 }
+        requires few { length flags.old ≤ MOST_INPUTS }
+        ensures len { length flags.new ≡ length flags.old }
+        ensures sees { SeesFree (length flags.old) tick (flag_of flags.old) self.old self.new
+            flags.new }
+        ensures seen { AreSeen table.now self.new tick flags.new }
+        ensures pass { IsReadOf table.now self.new }
+        ensures grows { Grows self.old self.new }
     {
-        ClosedLooks {
-            table,
-            pass,
-            tick,
-            closed: 0,
-            first,
+        for input in 0..table.inputs() {
+            if flags[input] {
+                flags[input] = self.look(table, input as u8, tick);
+            }
         }
     }
-}
 
-impl<'a> Looks for ClosedLooks<'a> {
-    ghost use Rattle.input_cells.specs.Looking.{FindsClosed, IsOpen};
-    ghost use Rattle.input_cells.specs.Sources.{StaysLooking, lent_face};
-    ghost use Rattle.std.specs.Prelude.{refl};
-    ghost use Rattle.std.proofs.Common.{◌∙◌};
-
-    ghost sees = { λ s input there.
-        FindsClosed s.table.now s.first.now.value s.pass.now s.tick input there };
-
-    ghost untold = { λ s input.
-        IsOpen s.table.now s.first.now.value s.pass.now s.tick input s.closed };
-
-    ghost stays = { λ before after. StaysLooking
-        (record {
-          lent = lent_face before.pass.ghost_name before.table.now before.tick before.pass.now;
-          first = before.first.now.value;
-        })
-        (record {
-          lent = lent_face after.pass.ghost_name after.table.now after.tick after.pass.now;
-          first = after.first.now.value;
-        }) };
-
-    ghost onward = { record {
-      still = λ a. record {
-        lent = record { lender = refl; table = refl; tick = refl; grows = λ p h. h };
-        first = refl;
-      };
-      on = λ a b c f g. record {
-        lent = record {
-          lender = g.lent.lender ∙ f.lent.lender;
-          table = g.lent.table ∙ f.lent.table;
-          tick = g.lent.tick ∙ f.lent.tick;
-          grows = λ p h. g.lent.grows p (f.lent.grows p h);
-        };
-        first = g.first ∙ f.first;
-      };
-    } };
-
-    fn look(&mut self, input: u8) -> Option<bool> {
-        if input as usize >= self.table.inputs() {
-            return Some(false);
+    /// Looks at an input after a load of its closing number, which has to be above the tick.
+    fn look_behind(&mut self, table: &InputTable, input: u8, tick: u64) -> Result<bool, StillOpen>
+        requires numbered { AreNumbered table.now }
+        requires pass { IsReadOf table.now self.old }
+        requires input { HasInput table.now input }
+        requires tick { HasShape table.now input (λ s. HasTick s tick) }
+        ensures ok { IfOk result (LookedClosed self.old self.new input tick) }
+        ensures err { IfErr result (IsOpenHere self.old self.new input tick) }
+        ensures apart { (i : ℕ) → i ≢ input → IsUntouched self.old self.new i }
+        ensures pass { IsReadOf table.now self.new }
+        ensures grows { Grows self.old self.new }
+    {
+        let closed = self.closed(table, input);
+        if closed <= tick {
+            return Err(StillOpen { input, closed });
         }
-        self.closed = self.pass.closed(self.table, input);
-        if self.closed <= self.tick {
-            return None;
+        Ok(self.look(table, input, tick))
+    }
+
+    /// Looks once at each input whose flag is set, in order, after a load of its closing number,
+    /// and leaves the flag set where the block is there; and loads the pace's number last. Each of
+    /// these numbers has to be above the tick: the first that is not is answered, and the flags
+    /// then have no meaning. There is a flag for each input.
+    pub fn look_closed(
+        &mut self,
+        table: &InputTable,
+        tick: u64,
+        flags: &mut [bool],
+    ) -> Result<(), StillOpen>
+        requires pass { IsReadOf table.now self.old }
+        requires tick { HasTickEach table.now tick }
+        requires flags { length table.now ≡ length flags.old + 1 }
+        requires few { length flags.old ≤ MOST_INPUTS }
+        ensures len { length flags.new ≡ length flags.old }
+        ensures sees { OnOk result (SeesClosed (length flags.old) tick (flag_of flags.old) self.old
+            self.new flags.new) }
+        ensures seen { OnOk result (AreSeen table.now self.new tick flags.new) }
+        ensures open { IfErr result (IsOpenAt (length flags.old) tick (flag_of flags.old) self.old
+            self.new) }
+        ensures late { All IsLate (looks_of self.old) → All IsLate (looks_of self.new) }
+        ensures pass { IsReadOf table.now self.new }
+        ensures grows { Grows self.old self.new }
+    {
+        for input in 0..table.inputs() {
+            if flags[input] {
+                match self.look_behind(table, input as u8, tick) {
+                    Ok(there) => flags[input] = there,
+                    Err(open) => return Err(open),
+                }
+            }
         }
-        Some(self.pass.look(self.table, input, self.tick))
+        let pace = flags.len() as u8;
+        let closed = self.closed(table, pace);
+        if closed <= tick {
+            return Err(StillOpen {
+                input: pace,
+                closed,
+            });
+        }
+        Ok(())
     }
 }

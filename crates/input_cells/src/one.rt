@@ -7,7 +7,7 @@ ghost use Rattle.input_rule.specs.declared.view.Heard.{Heard};
 ghost use Rattle.input_rule.specs.Views.{HasMissed, HasSeen, closed_of, listened, looked, saw};
 ghost use Rattle.input_rule.specs.Words.{HasTick, block_len, block_start, presence};
 ghost use Rattle.packet_writer.specs.Heard.{HasFrames, channel_samples};
-ghost use Rattle.input_cells.specs.Faces.{GrowsAt, face_of, unfed, unread};
+ghost use Rattle.input_cells.specs.Faces.{HearsAt, face_of, unfed, unread};
 ghost use Rattle.input_cells.specs.Agreement.{HasHeard, IsHeardOf};
 ghost use Rattle.input_cells.specs.Shapes.{BeginsUnfed, IsSmall};
 
@@ -91,7 +91,7 @@ impl OneInput {
         (tick - self.shape.from) as usize + 1
     }
 
-    /// The first sample word of a tick, behind which all samples of the tick are words of the
+    /// The first sample word of a tick, after which all samples of the tick are words of the
     /// table.
     pub(crate) fn block_word(&self, tick: u64) -> usize
         requires { HasTick self.now.shape tick }
@@ -104,7 +104,7 @@ impl OneInput {
 }
 
 impl OneInput {
-    /// Whether the blocks have so many frames of the part's channels.
+    /// Whether the blocks have a given number of frames of the part's channels.
     fn has_room(&self, part: Part, frames: usize) -> bool
         requires { frames < 2 ^ 63 }
         ensures room { IsTrue result
@@ -126,7 +126,7 @@ impl OneInput {
     }
 }
 
-/// A channel of a block of so many channels, from a frame on.
+/// A channel of a block of a given number of channels, from a frame on.
 #[derive(Clone, Copy)]
 pub(crate) struct Part {
     pub(crate) channels: usize,
@@ -200,8 +200,9 @@ impl InputReader {
         let word = table.block_word(tick) + place;
         sample_of(table.table.shared.load::<Hears>(&mut self.seat, word))
     }
-    /// Copies the samples at places of a block that was seen, each so many places behind the one
-    /// before, by one load each. Out of line, so that its loop keeps its registers.
+
+    /// Copies the samples at places of a block that was seen, each a given number of places after
+    /// the one before, by one load each. Out of line, so that its loop keeps its registers.
     #[inline(never)]
     fn copy(&mut self, table: &OneInput, tick: u64, first: usize, step: usize, out: &mut [i32])
         requires table { face_of self.old ≡ table.now }
@@ -210,7 +211,7 @@ impl InputReader {
         requires places { (n : ℕ) → n < length out.old
             → first + n * step < block_len table.now.shape }
         requires short { block_len table.now.shape < 2 ^ 63 }
-        ensures grows { GrowsAt self.old self.new }
+        ensures hears { HearsAt self.old self.new }
         ensures len { length out.new ≡ length out.old }
         ensures heard { (n : ℕ) → n < length out.old
             → HasHeard self.new.view tick (first + n * step) (slice_index_or out.new n (pos 0)) }
@@ -221,13 +222,13 @@ impl InputReader {
     }
 
     /// Copies the samples of a channel of a block that was seen, from a frame on. Where there are
-    /// not so many, no block agrees with what was seen, and it is silence.
+    /// fewer, no block agrees with what was seen, and it is silence.
     pub(crate) fn copy_channel(&mut self, table: &OneInput, tick: u64, part: Part, out: &mut [i32])
         requires table { face_of self.old ≡ table.now }
         requires tick { HasTick table.now.shape tick }
         requires seen { HasSeen self.old.view tick }
         requires channel { part.channel < part.channels }
-        ensures grows { GrowsAt self.old self.new }
+        ensures hears { HearsAt self.old self.new }
         ensures len { length out.new ≡ length out.old }
         ensures value { (b : Option (List ℤ)) → IsHeardOf self.new.view tick b
             → HasFrames b part.channels (part.frame + length out.old)

@@ -7,7 +7,8 @@ ghost use Rattle.input_rule.specs.Views.{HasMissed, HasSeen, closed_of, listened
 ghost use Rattle.input_rule.specs.Words.{HasTick};
 ghost use Rattle.packet_writer.specs.Heard.{HasFrames, channel_samples};
 ghost use Rattle.input_cells.specs.Agreement.{IsHeardOf};
-ghost use Rattle.input_cells.specs.Faces.{Grows, HasInput, HasShape, HasView, IsReadOf, changed};
+ghost use Rattle.input_cells.specs.Faces.{Grows, HasInput, HasShape, HasView, IsReadOf};
+ghost use Rattle.input_cells.specs.Faces.{OnlyHears, changed};
 
 use crate::one::{InputReader, Part};
 use crate::table::InputTable;
@@ -30,7 +31,7 @@ impl Model for ReadPass {
 }
 
 impl ReadPass {
-    /// The closing number of an input, or of the pace, whose number is the next one behind the
+    /// The closing number of an input, or of the pace, whose number is the next one after the
     /// inputs. The ticks below it are closed.
     pub fn closed(&mut self, table: &InputTable, input: u8) -> u64
         requires pass { IsReadOf table.now self.old }
@@ -90,6 +91,7 @@ impl ReadPass {
         let seat = &mut self.seats[input as usize];
         seat.listen(one, tick, one.place(frame, channel))
     }
+
     /// Copies the samples of a channel of an input's block, which an earlier look of this pass saw,
     /// from a frame on.
     pub(crate) fn copy_channel(
@@ -105,7 +107,7 @@ impl ReadPass {
         requires tick { HasShape table.now input (λ s. HasTick s tick) }
         requires seen { HasView self.old input (λ v. HasSeen v tick) }
         requires channel { part.channel < part.channels }
-        ensures grows { Grows self.old self.new }
+        ensures hears { OnlyHears self.old self.new }
         ensures len { length out.new ≡ length out.old }
         ensures value { (b : Option (List ℤ)) → HasView self.new input (λ v. IsHeardOf v tick b)
             → HasFrames b part.channels (part.frame + length out.old)

@@ -78,35 +78,32 @@ impl<'a> SeenSamples<'a> {
 
 impl<'a> Samples for SeenSamples<'a> {
     ghost use Rattle.input_cells.specs.Agreement.{AreHeard};
-    ghost use Rattle.input_cells.specs.Sources.{StaysSeen, lent_face};
+    ghost use Rattle.input_cells.specs.Sources.{StaysLent, lent_face};
     ghost use Rattle.std.specs.Prelude.{refl};
     ghost use Rattle.std.proofs.Common.{◌∙◌};
 
     ghost agrees = { λ s b. AreHeard s.pass.now s.tick s.flags.now b };
 
-    ghost stays = { λ before after. StaysSeen
-        (record {
-          lent = lent_face before.pass.ghost_name before.table.now before.tick before.pass.now;
-          flags = before.flags.now;
-        })
-        (record {
-          lent = lent_face after.pass.ghost_name after.table.now after.tick after.pass.now;
-          flags = after.flags.now;
-        }) };
+    ghost stays = { λ before after. StaysLent
+        (lent_face before.pass.ghost_name before.table.now before.tick before.flags.now
+        before.pass.now)
+        (lent_face after.pass.ghost_name after.table.now after.tick after.flags.now
+        after.pass.now) };
 
     ghost onward = { record {
       still = λ a. record {
-        lent = record { lender = refl; table = refl; tick = refl; grows = λ p h. h };
+        lender = refl;
+        table = refl;
+        tick = refl;
         flags = refl;
+        hears = λ p h. h;
       };
       on = λ a b c f g. record {
-        lent = record {
-          lender = g.lent.lender ∙ f.lent.lender;
-          table = g.lent.table ∙ f.lent.table;
-          tick = g.lent.tick ∙ f.lent.tick;
-          grows = λ p h. g.lent.grows p (f.lent.grows p h);
-        };
+        lender = g.lender ∙ f.lender;
+        table = g.table ∙ f.table;
+        tick = g.tick ∙ f.tick;
         flags = g.flags ∙ f.flags;
+        hears = λ p h. g.hears p (f.hears p h);
       };
     } };
 

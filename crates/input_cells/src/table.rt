@@ -33,9 +33,9 @@ impl Model for InputTable {
 }
 
 impl InputTable {
-    /// A table for the inputs of a device, with so many ticks from a first one on and room for so
-    /// many readers, and what makes its passes. No block is there, and each closing number, the
-    /// pace's too, is the first tick.
+    /// A table for the inputs of a device, with a given number of ticks from a first one on and
+    /// room for a given number of readers, and what makes its passes. No block is there, and each
+    /// closing number, the pace's too, is the first tick.
     pub fn start(
         alloc: Global,
         device: &Device,

@@ -1,7 +1,6 @@
 //! Tables worked by hand, and that no call gives up where there is memory.
 
 ghost use Rattle.std.specs.Prelude.{◌≡◌, ◌↔◌, ◌<◌, ◌≤◌, IfOk, IsTrue, OnOk, ℕ, length, map};
-ghost use Rattle.io_caps.specs.declared.limits.TheConstants.{MOST_INPUTS};
 ghost use Rattle.input_rule.specs.Words.{HasTick};
 ghost use Rattle.packet_writer.specs.Packet.{FitOutput, RowFits, packet_length};
 ghost use Rattle.input_cells.specs.Agreement.{AreSeen};
@@ -16,9 +15,8 @@ use io_caps::{
     Text, Width,
 };
 use map_entry::Cell;
-use packet_writer::{OneRow, look_at_marked, packet_len, write_packet};
+use packet_writer::{OneRow, packet_len, write_packet};
 use std::alloc::Global;
-use std::snapshot::Snapshot;
 use std::test::Fail;
 
 // ---- a device of an input and an output, of two channels each, with two frames a tick
@@ -87,7 +85,7 @@ fn device(alloc: Global) -> Result<Device, Fail> {
 
 // ---- its table
 
-/// A table with the pass of its input's feeder and a reader's.
+/// A table with the passes of its input's feeder and of the pace's, and a reader's.
 #[derive(Drop)]
 struct Running {
     device: Device,
@@ -95,9 +93,11 @@ struct Running {
     ticks: u64,
     table: InputTable,
     feeder: FeedPass,
+    pace: FeedPass,
     reader: ReadPass,
     ghost of_device: { IsTableOf device from ticks table },
     ghost feeds: { IsFeedOf table feeder },
+    ghost paces: { IsFeedOf table pace },
     ghost reads: { IsReadOf table reader },
 }
 
@@ -111,9 +111,10 @@ fn passes(
 ) -> Result<Running, Fail>
     requires table { IsTableOf device from ticks table }
     requires of { feeds.table ≡ table }
-    requires input { 0 < length table }
+    requires pace { 1 < length table }
 {
     let feeder = feeds.feed(&table, 0)?;
+    let pace = feeds.feed(&table, 1)?;
     let reader = feeds.reader(&table)?;
     if feeds.feed(&table, 0).is_ok() || feeds.reader(&table).is_ok() {
         return Err("no seat".into());
@@ -124,6 +125,7 @@ fn passes(
         ticks,
         table,
         feeder,
+        pace,
         reader,
     })
 }
@@ -145,8 +147,9 @@ fn start(alloc: Global, from: u64, ticks: u64) -> Result<Running, Fail> {
 enum Step {
     /// The feeder sets the block of a tick.
     Set(u64, [i32; 4]),
-    /// The feeder raises the closing number.
+    /// The feeder raises the closing number, or the pace's does.
     Close(u64),
+    Pace(u64),
     /// The reader loads the closing number, looks at a tick, and reads a sample of a tick: at a
     /// frame of a channel.
     Closed,
@@ -167,8 +170,8 @@ enum Told {
     /// The closing number of the feeder, or the one that the reader loaded.
     Closing(u64),
     There(bool),
-    /// It can't be told yet, by the closing number that the reader loaded.
-    Open(u64),
+    /// It cannot be told yet, by the closing number that the reader loaded of an input or the pace.
+    Open(u8, u64),
     Value(i32),
     /// It may not be asked.
     No,
@@ -180,39 +183,10 @@ fn block(alloc: Global, samples: [i32; 4]) -> Result<Block, NoMemory> {
 
 /// Whether the table has just one input, and the tick.
 fn has_one_with(table: &InputTable, tick: u64) -> bool
-    ensures { IsTrue result → HasTickEach table.now tick }
+    ensures tick { IsTrue result → HasTickEach table.now tick }
+    ensures one { IsTrue result → length table.now ≡ 2 }
 {
     table.inputs() == 1 && table.has_tick(0, tick)
-}
-
-/// Looks at the marked inputs' blocks of a tick, wherever the closing numbers stand.
-fn look_free(table: &InputTable, reader: &mut ReadPass, tick: u64, flags: &mut [bool]) -> Option<u8>
-    requires reads { IsReadOf table.now reader.old }
-    requires tick { HasTickEach table.now tick }
-    requires few { length flags.old ≤ MOST_INPUTS }
-    ensures { IsReadOf table.now reader.new }
-{
-    let first = Snapshot::of(&*reader);
-    let mut looks = FreeLooks::new(table, reader, &first, tick);
-    look_at_marked(&mut looks, flags)
-}
-
-/// Looks at the marked inputs' blocks of a tick that is closed; tells the last closing number too.
-fn look_closed(
-    table: &InputTable,
-    reader: &mut ReadPass,
-    tick: u64,
-    flags: &mut [bool],
-) -> (Option<u8>, u64)
-    requires reads { IsReadOf table.now reader.old }
-    requires tick { HasTickEach table.now tick }
-    requires few { length flags.old ≤ MOST_INPUTS }
-    ensures { IsReadOf table.now reader.new }
-{
-    let first = Snapshot::of(&*reader);
-    let mut looks = ClosedLooks::new(table, reader, &first, tick);
-    let untold = look_at_marked(&mut looks, flags);
-    (untold, looks.closed)
 }
 
 impl Running {
@@ -229,6 +203,11 @@ impl Running {
     fn close(&mut self, upto: u64) -> Told {
         self.feeder.close(&self.table, upto);
         Told::Closing(self.feeder.closing())
+    }
+
+    fn pace(&mut self, upto: u64) -> Told {
+        self.pace.close(&self.table, upto);
+        Told::Closing(self.pace.closing())
     }
 
     fn closed(&mut self) -> Told {
@@ -265,10 +244,8 @@ impl Running {
             return Told::No;
         }
         let mut flags = [true];
-        match look_free(&self.table, &mut self.reader, tick, &mut flags) {
-            None => Told::There(flags[0]),
-            Some(_) => Told::No,
-        }
+        self.reader.look_free(&self.table, tick, &mut flags);
+        Told::There(flags[0])
     }
 
     fn look_closed(&mut self, tick: u64) -> Told {
@@ -276,9 +253,9 @@ impl Running {
             return Told::No;
         }
         let mut flags = [true];
-        match look_closed(&self.table, &mut self.reader, tick, &mut flags) {
-            (None, _) => Told::There(flags[0]),
-            (Some(_), closed) => Told::Open(closed),
+        match self.reader.look_closed(&self.table, tick, &mut flags) {
+            Ok(()) => Told::There(flags[0]),
+            Err(StillOpen { input, closed }) => Told::Open(input, closed),
         }
     }
 
@@ -286,6 +263,7 @@ impl Running {
         Ok(match step {
             Step::Set(tick, samples) => self.set(tick, &block(alloc, samples)?),
             Step::Close(upto) => self.close(upto),
+            Step::Pace(upto) => self.pace(upto),
             Step::Closed => self.closed(),
             Step::Look(tick) => self.look(tick),
             Step::Sample(tick, frame, channel) => self.sample(tick, frame, channel),
@@ -299,18 +277,18 @@ impl Running {
 const FRAMES: [i32; 4] = [0x111100, 0x222200, 0x333300, 0x444400];
 
 /// A table of tick 0.
-const BY_HAND: [(Step, Told); 22] = [
+const BY_HAND: [(Step, Told); 24] = [
     (Step::Closed, Told::Closing(0)),
     (Step::Look(0), Told::There(false)),
     (Step::Look(1), Told::No),
     (Step::LookFree(0), Told::There(false)),
-    (Step::LookClosed(0), Told::Open(0)),
+    (Step::LookClosed(0), Told::Open(0, 0)),
     (Step::Sample(0, 1, 0), Told::No),
     (Step::Set(1, FRAMES), Told::No),
     (Step::Set(0, FRAMES), Told::Done),
     (Step::Look(0), Told::There(true)),
     (Step::LookFree(0), Told::There(true)),
-    (Step::LookClosed(0), Told::Open(0)),
+    (Step::LookClosed(0), Told::Open(0, 0)),
     (Step::Sample(0, 1, 0), Told::Value(3355392)),
     (Step::Sample(0, 0, 1), Told::Value(2236928)),
     (Step::Sample(0, 2, 0), Told::No),
@@ -321,6 +299,8 @@ const BY_HAND: [(Step, Told); 22] = [
     (Step::Closed, Told::Closing(1)),
     (Step::Close(0), Told::Closing(1)),
     (Step::Set(0, FRAMES), Told::No),
+    (Step::LookClosed(0), Told::Open(1, 0)),
+    (Step::Pace(1), Told::Closing(1)),
     (Step::LookClosed(0), Told::There(true)),
 ];
 
@@ -335,15 +315,16 @@ fn input_table_by_hand(rt: HostRuntime) -> Result<(), Fail> {
 }
 
 /// A table of ticks 7 to 9.
-const THREE_TICKS: [(Step, Told); 13] = [
+const THREE_TICKS: [(Step, Told); 14] = [
     (Step::Closed, Told::Closing(7)),
     (Step::Look(6), Told::No),
     (Step::Set(9, [-1, i32::MIN, i32::MAX, 0]), Told::Done),
     (Step::Set(7, [5, 6, 7, 8]), Told::Done),
     (Step::Close(9), Told::Closing(9)),
     (Step::Look(8), Told::There(false)),
+    (Step::Pace(9), Told::Closing(9)),
     (Step::LookClosed(8), Told::There(false)),
-    (Step::LookClosed(9), Told::Open(9)),
+    (Step::LookClosed(9), Told::Open(0, 9)),
     (Step::Sample(9, 0, 0), Told::Value(-1)),
     (Step::Sample(9, 0, 1), Told::Value(i32::MIN)),
     (Step::Sample(9, 1, 0), Told::Value(i32::MAX)),
@@ -363,7 +344,8 @@ fn ticks_by_hand(rt: HostRuntime) -> Result<(), Fail> {
 
 // ---- a packet of what the reader sees
 
-/// Whether a row has a cell for each of so many channels, and these name channels that are there.
+/// Whether a row has a cell for each of a given number of channels, and these name channels that
+/// are there.
 fn fits(inputs: &[Input], channels: usize, row: &[Cell]) -> bool
     ensures { IsTrue result ↔ RowFits inputs.now channels row.now }
 {

@@ -46,7 +46,7 @@ block_there shape words tick inside there =
     ap (λ (b : Bool). cond b (Some (samples_at shape words tick)) None)
     (present_is shape words tick inside there)
 
--- a block that isn't there
+-- a block that is not there
 pub block_gone : (shape : Shape) (words : List ℕ) (tick : ℕ) → IsAbsent shape words tick
     → block_at shape words tick ≡ None
 block_gone shape words tick gone =

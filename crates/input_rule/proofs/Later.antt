@@ -58,7 +58,7 @@ pub record MayStore (shape : Shape) (words : List ℕ) (word x : ℕ) : Type 0 w
   pub shown : AreWords shape (set words word x)
   pub later : AreLater shape words (set words word x)
 
--- a presence word lies before the samples, and behind the closing number
+-- a presence word lies before the samples, and after the closing number
 presence_low : (shape : Shape) (tick : ℕ) → HasTick shape tick → presence shape tick ≤ shape.ticks
 presence_low shape tick inside = let a = inside.0 in let b = inside.1 in omega arith
 
@@ -96,7 +96,7 @@ same_sample shape s p t q a l b m e =
     let rows = (same_from_place (s - shape.from) p (t - shape.from) q (block_len shape) l m at).0 in
     let x = a.0 in let y = b.0 in omega arith
 
--- a sample of a block that isn't there
+-- a sample of a block that is not there
 pub may_store_sample : (shape : Shape) (words : List ℕ) (tick place x : ℕ) → AreWords shape words
     → HasTick shape tick → place < block_len shape
     → x < 2 ^ 32 → IsAbsent shape words tick
@@ -135,7 +135,7 @@ may_store_sample shape words tick place x shown inside below fits gone =
       };
     }
 
--- the presence of a tick that isn't closed
+-- the presence of a tick that is not closed
 pub may_store_presence : (shape : Shape) (words : List ℕ) (tick : ℕ) → AreWords shape words
     → HasTick shape tick → closing words ≤ tick
     → MayStore shape words (presence shape tick) 1

@@ -30,13 +30,13 @@ pub record IsFeeder (m : Sitting) : Type 0 where
   pub feeds : m.0.feeds ≡ true
   pub words : AreWords m.0.shape m.0.words
 
--- a sample of a block that isn't there
+-- a sample of a block that is not there
 abbrev pub StoresSample : Type 0
 StoresSample = (m : Sitting) (tick place x : ℕ) → IsFeeder m → HasTick m.0.shape tick
     → place < block_len m.0.shape → x < 2 ^ 32 → IsAbsent m.0.shape m.0.words tick
     → MayWrite m (sample_word m.0.shape tick place) x
 
--- the presence of a tick that isn't closed
+-- the presence of a tick that is not closed
 abbrev pub StoresPresence : Type 0
 StoresPresence = (m : Sitting) (tick : ℕ) → IsFeeder m → HasTick m.0.shape tick
     → closing m.0.words ≤ tick → MayWrite m (presence m.0.shape tick) 1

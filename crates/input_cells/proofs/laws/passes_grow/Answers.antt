@@ -1,5 +1,5 @@
 use Rattle.input_cells.proofs.Growing.{agrees_before, grows_on, keeps_missed, keeps_seen}
-use Rattle.input_cells.proofs.Growing.{stays_of_table}
+use Rattle.input_cells.proofs.Growing.{hearing_grows, own_grown, stays_of_table, unread_own}
 use Rattle.input_cells.proofs.laws.passes_grow.Goals as goal
 
 pub returns-clause-on : goal.returns-clause-on
@@ -16,3 +16,12 @@ returns-clause-missed c = keeps_missed
 
 pub returns-clause-agrees : goal.returns-clause-agrees
 returns-clause-agrees c = agrees_before
+
+pub returns-clause-own : goal.returns-clause-own
+returns-clause-own c = own_grown
+
+pub returns-clause-unread : goal.returns-clause-unread
+returns-clause-unread c = unread_own
+
+pub returns-clause-hears : goal.returns-clause-hears
+returns-clause-hears c = hearing_grows

@@ -1,4 +1,4 @@
-use Rattle.std.proofs.Common.{◌≡◌, ℕ, ◌∙◌, List, length, map, ap, arith, rules}
+use Rattle.std.proofs.Common.{◌≡◌, ◌∙◌, List, length, map, ap, arith, rules}
 use Rattle.input_cells.specs.Faces.{SeatFace, face_of}
 use Rattle.input_cells.proofs.Feeders.{feeders_all, feeders_more}
 use Rattle.input_cells.proofs.tests.feeders.Goals as goal
