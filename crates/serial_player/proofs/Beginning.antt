@@ -19,9 +19,9 @@ use Rattle.packet_writer.specs.Packet.{Blocks, claim_rows, flag_of, output_of_cl
 use Rattle.packet_writer.proofs.ClaimLaws.{names_by-same, packet_by-same}
 use Rattle.plain_book.specs.Journal.{entries_of}
 use Rattle.plain_book.specs.Legal.{IsLegalJournal}
-use Rattle.plain_book.specs.declared.calls.JournalCall.{JournalCall}
-use Rattle.plain_book.specs.declared.history.ClaimItem.{ClaimItem}
-use Rattle.plain_book.specs.declared.history.History.{History}
+use Rattle.book_words.specs.declared.calls.JournalCall.{JournalCall}
+use Rattle.book_words.specs.declared.history.ClaimItem.{ClaimItem}
+use Rattle.book_words.specs.declared.history.History.{History}
 use Rattle.interleavings.specs.Legal.{AreClaims, Form, IsClaim, closed_form, free_form}
 use Rattle.serial_player.specs.Legal.{IsByBegin, IsLegalClosed, IsLegalFree, KeepsBegunTicks}
 use Rattle.serial_player.specs.Legal.{calls_by_begin, first_of_tick}
@@ -29,7 +29,7 @@ use Rattle.serial_player.specs.Serial.{blocks_of}
 use Rattle.serial_player.specs.Streams.{Turn}
 use Rattle.serial_player.proofs.Running.{selected_stays}
 
--- ---- the calls of a journal before a number of claims, and those behind
+-- ---- the calls of a journal before a number of claims, and those after
 
 record Split (m : ℕ) (journal : List JournalCall) : Type 0 where
   behind : List JournalCall

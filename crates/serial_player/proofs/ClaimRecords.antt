@@ -9,7 +9,7 @@ use Rattle.io_caps.specs.Device.{IsDevice}
 use Rattle.io_caps.specs.declared.device.DeviceParts.{DeviceParts}
 use Rattle.packet_writer.specs.Packet.{packet_length}
 use Rattle.packet_writer.proofs.PacketLaws.{packet_short}
-use Rattle.plain_book.specs.History.{claim_item}
+use Rattle.book_words.specs.History.{claim_item}
 use Rattle.exact_text.specs.Forms.{number_text}
 use Rattle.capture_file.specs.Device.{flag}
 use Rattle.capture_file.specs.Result.{FitsClaim, claim}

@@ -17,16 +17,16 @@ use Rattle.map_entry.specs.Row.{IsChannelThere, IsRowOf, channels_of}
 use Rattle.map_entry.specs.declared.cell.Cell.{Cell}
 use Rattle.map_entry.specs.declared.cell.Cell.TheVariants.{Unrouted, From}
 use Rattle.map_entry.proofs.Channels.{passed_there}
-use Rattle.plain_book.specs.Calls.{action_of, when_of}
+use Rattle.book_words.specs.Calls.{action_of, when_of}
 use Rattle.plain_book.specs.Pending.{later, latest}
-use Rattle.plain_book.specs.Replies.{item_of, shown as shown_call}
-use Rattle.plain_book.specs.declared.calls.JournalCall.{JournalCall}
-use Rattle.plain_book.specs.declared.requests.Request.{Request}
-use Rattle.plain_book.specs.declared.requests.Request.TheVariants.{Activate, Delete}
-use Rattle.plain_book.specs.declared.requests.Request.TheVariants.{Active as AskActive}
-use Rattle.plain_book.specs.declared.requests.Request.TheVariants.{Pending as AskPending}
-use Rattle.plain_book.specs.declared.requests.When.{When}
-use Rattle.plain_book.specs.declared.requests.When.TheVariants.{Now, At, After}
+use Rattle.book_words.specs.Replies.{item_of, shown as shown_call}
+use Rattle.book_words.specs.declared.calls.JournalCall.{JournalCall}
+use Rattle.book_words.specs.declared.requests.Request.{Request}
+use Rattle.book_words.specs.declared.requests.Request.TheVariants.{Activate, Delete}
+use Rattle.book_words.specs.declared.requests.Request.TheVariants.{Active as AskActive}
+use Rattle.book_words.specs.declared.requests.Request.TheVariants.{Pending as AskPending}
+use Rattle.book_words.specs.declared.requests.When.{When}
+use Rattle.book_words.specs.declared.requests.When.TheVariants.{Now, At, After}
 use Rattle.exact_text.specs.Forms.{counted}
 use Rattle.capture_file.specs.Requests.{action, cell, request}
 use Rattle.capture_file.specs.Replies.{FitsWidth, last, pending, rows, shown, when}
@@ -140,7 +140,7 @@ items_fit : (calls : List JournalCall) → AllByRecursion IsFitCall calls
 items_fit [] all = tt
 items_fit (call ∷ calls) all = (item_fits call all.0, items_fit calls all.1)
 
--- so many pending activations
+-- a given number of pending activations
 pub pending_fits : (p : JournalCall → Bool) (journal : List JournalCall)
     → AllByRecursion IsFitCall journal → length (filter p journal) < 256
     → (counted pending).Fits (map item_of (filter p journal))

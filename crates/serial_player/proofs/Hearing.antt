@@ -1,164 +1,204 @@
 -- Streams, record by record.
-use Rattle.std.proofs.Common.{◌≡◌, ℕ, zero, suc, ◌+◌, ◌<◌, ◌≤◌, eqb, List, [], ◌∷◌, ◌++◌, length}
-use Rattle.std.proofs.Common.{take, map, Ok, Err, inl, inr, ◌⊎◌, refl, sym, ap, subst, ◌∙◌, arith}
-use Rattle.std.proofs.Common.{append_assoc}
-use Rattle.std.specs.Prelude.{OnOk, Result, replicate, slice_index_or}
+use Rattle.std.proofs.Common.{◌≡◌, ℕ, zero, suc, ◌+◌, ◌<◌, ◌≤◌, Bool, true, false, eqb, List, []}
+use Rattle.std.proofs.Common.{◌∷◌, ◌++◌, length, take, map, Ok, Err, Option, Some, inl, inr, ◌⊎◌, refl, sym, ap}
+use Rattle.std.proofs.Common.{subst, ◌∙◌, arith, append_assoc}
+use Rattle.std.specs.Prelude.{OnOk, Result, replicate, slice_index_or, slice_set}
 use Rattle.std.specs.List.{AllByRecursion}
 use Rattle.std.proofs.lemmas.Bool.{cases_Bool, cases_lt, eqb-true, eq-eqb, false≢true}
-use Rattle.std.proofs.lemmas.Grind.{flat_map-append}
-use Rattle.std.proofs.lemmas.List.{append-nil, get_or-replicate, length-append, length-replicate}
+use Rattle.std.proofs.lemmas.Grind.{flat_map-append, get_or-set_at}
+use Rattle.std.proofs.lemmas.List.{append-nil, get_or-replicate, get_or-set_other, length-append}
 use Rattle.std.proofs.lemmas.List.{map-append}
 use Rattle.std.proofs.lemmas.Result.{IfOk-weaker}
+use Rattle.httparse.specs.Grammar.{RequestHead, print_blank, print_request}
+use Rattle.httparse.proofs.GrammarLemmas.{print_request-append}
 use Rattle.io_caps.specs.declared.limits.TheConstants.{CLIENTS}
-use Rattle.http_wire.specs.Stream.{Answer, AnswersOn, FeedsOn, IsAnswered, Stand}
-use Rattle.http_wire.specs.Stream.{answers_of as answers_found, ended, holds}
+use Rattle.http_wire.specs.Stream.{Answer, BeginsWith, IsAnswered, Stand, Steps, behind, ended}
+use Rattle.http_wire.specs.Stream.{FeedsOn, holds, answers_of as answers_found}
+use Rattle.http_wire.specs.Stream.Answer.{whole, refused}
+use Rattle.http_wire.specs.declared.request.HttpRequest.{HttpRequest}
 use Rattle.http_wire.specs.declared.stream.Next.{Next}
-use Rattle.http_wire.specs.declared.stream.Next.TheVariants.{Need, Ended}
-use Rattle.capture_file.specs.Items.{claims_of}
-use Rattle.interleavings.specs.Serial.{SerialParts, serial_parts}
-use Rattle.interleavings.specs.Legal.{first_floor}
+use Rattle.http_wire.specs.declared.stream.Next.TheVariants as next
 use Rattle.http_wire.proofs.ScanLemmas.{no_line_open}
-use Rattle.map_entry.specs.Setup.{IsSetup, SetupParts}
 use Rattle.capture_file.specs.declared.items.Item.{Item}
-use Rattle.capture_file.specs.declared.items.Item.TheVariants.{Packet, Piece, Ask, Work}
-use Rattle.plain_book.specs.Desk.{DeskParts, desk_parts}
-use Rattle.plain_book.specs.declared.requests.Request.{Request}
-use Rattle.plain_book.specs.declared.requests.Stamp.{Stamp}
-use Rattle.serial_player.specs.Asks.ClientAsk.{Asked, Heard}
-use Rattle.serial_player.specs.Run.{AreAll, AreAnswered, AreNew, HasAsked, HasPlayed, Hears}
-use Rattle.serial_player.specs.Run.{IsWritable}
-use Rattle.serial_player.specs.Run.{IsOnlyStream, IsPlayed, KeepsRun, floor_at, parts_of, stand_at}
-use Rattle.serial_player.specs.Serial.{Played, Step, play_all, play_from, play_step, played}
-use Rattle.serial_player.specs.Serial.{steps_by, steps_in, steps_of}
-use Rattle.serial_player.specs.Serial.Step.{Asks}
-use Rattle.serial_player.specs.Streams.{IsHeard, IsSettled, Turn, answers_in, answers_of, bytes_in}
-use Rattle.serial_player.specs.Streams.{bytes_of, turn}
-use Rattle.serial_player.specs.declared.clients.Clients.{Clients}
-use Rattle.serial_player.specs.declared.player.Run.{Run}
-use Rattle.serial_player.proofs.Running.{told_run}
+use Rattle.capture_file.specs.declared.items.Item.TheVariants.{Packet, Piece, Ask as AskItem, Work}
+use Rattle.book_words.specs.declared.requests.Request.{Request}
+use Rattle.plain_book.proofs.Lists.{all_append}
+use Rattle.serial_player.specs.Asks.{IsAskThere, ask_of}
+use Rattle.serial_player.specs.Resolved.{AreAnswered, Hears, IsAnswerNext, IsDue, IsNextAsk}
+use Rattle.serial_player.specs.Resolved.{IsNoneNext, IsResolved, left_of, stand_in}
+use Rattle.serial_player.specs.Serial.{IsStepThere, steps_by, steps_in, steps_of}
+use Rattle.serial_player.specs.Streams.{AtPieces, IsHeard, IsSettled, Turn, answers_in}
+use Rattle.serial_player.specs.Streams.{answers_of, bytes_in, bytes_of, turn}
+use Rattle.serial_player.specs.declared.asks.ClientAsk.{ClientAsk}
+use Rattle.serial_player.specs.declared.asks.ClientAsk.TheVariants.{Asked}
+use Rattle.serial_player.specs.declared.asks.Step.{Step}
+use Rattle.serial_player.specs.declared.asks.Step.TheVariants.{Claims, Ask}
 
--- ---- a stream alone goes on
+-- what holds of what came holds where it is weakened
+pub on_ok : {T E : Type 0} (r : Result T E) (P Q : Type 0) → (P → Q) → OnOk r P → OnOk r Q
+on_ok r P Q f = IfOk-weaker r (λ _. P) (λ _. Q) (λ _ p. f p)
 
--- but for the stream of a client nothing changed
-pub record IsQuiet (client : ℕ) (old new : Run) : Type 0 where
-  pub desk : new.desk ≡ old.desk
-  pub rows : new.rows ≡ old.rows
-  pub told : new.replies ≡ old.replies
-  pub only : IsOnlyStream client old.clients new.clients
+pub both_ok : {T E : Type 0} (r : Result T E) (P Q : Type 0) → OnOk r P → OnOk r Q → OnOk r (P × Q)
+both_ok (Ok x) P Q p q = (p, q)
+both_ok (Err e) P Q p q = tt
 
-quiet_floor : (client other : ℕ) (old new : Run) → IsQuiet client old new
-    → floor_at new.clients other ≡ floor_at old.clients other
-quiet_floor client other old new is =
-    ap (λ (v : _). floor_at (record { streams = new.clients.streams; floors = v }) other)
-    is.only.floors
+-- ---- an answer takes bytes of a stream, or ends it
 
-quiet_played : (client : ℕ) (old new : Run) (p : Played) → IsQuiet client old new → HasPlayed p old
-    → HasPlayed p new
-quiet_played client old new p is has = record {
-  claims = ap (λ (d : DeskParts). d.claims) is.desk ∙ has.claims;
-  journal = ap (λ (d : DeskParts). d.journal) is.desk ∙ has.journal;
-  told = is.told ∙ has.told;
-  floors = λ other there. quiet_floor client other old new is ∙ has.floors other there;
+mid_long : (a b c all : List ℕ) → all ≡ a ++ (b ++ c) → 0 < length b → 0 < length all
+mid_long a b c all is some =
+    omega (arith, some, ap length is, length-append a (b ++ c), length-append b c)
+
+-- a head has bytes
+head_long : (h : RequestHead) → 0 < length h.method → 0 < length (print_request h)
+head_long h some =
+    omega (
+      arith,
+      mid_long (print_blank h.blank) h.method _ (print_request h ++ []) (print_request-append h [])
+          some,
+      length-append (print_request h) [],
+    )
+
+begins_less : (bytes rest : List ℕ) (http : HttpRequest) → BeginsWith bytes http rest
+    → length rest < length bytes
+begins_less bytes rest http is =
+    let reads = is.fits.reads in
+    omega (
+      arith,
+      head_long is.head reads.0.method.0,
+      ap length reads.1,
+      length-append (print_request is.head) (is.body ++ rest),
+      length-append is.body rest,
+    )
+
+behind_less : (http : HttpRequest) (rest : List ℕ) (n : ℕ) (closes : Bool) → http.closes ≡ closes
+    → length rest < n → left_of (behind http rest) < suc n
+behind_less http rest n true is less = rw is (omega arith)
+behind_less http rest n false is less = rw is (omega (arith, less))
+
+whole_less : (old new : Stand) (http : HttpRequest) → Steps old (next.Request http) new
+    → left_of new < left_of old
+whole_less (holds bytes) new http (rest, begins, at) =
+    subst (λ (to : Stand). left_of to < suc (length bytes)) (sym at)
+    (behind_less http rest (length bytes) http.closes refl (begins_less bytes rest http begins))
+whole_less ended new http steps = absurd steps
+
+refused_less : (old new : Stand) (status : ℕ) → Steps old (next.Bad status) new
+    → left_of new < left_of old
+refused_less (holds bytes) new status (is, at) =
+    subst (λ (to : Stand). left_of to < suc (length bytes)) (sym at) (omega arith)
+refused_less ended new status steps = absurd steps
+
+-- ---- what is next of a stream
+
+none_next : (old new : Stand) (found : Next) → answers_found found ≡ [] → IsDue old found new
+    → IsSettled new → IsNoneNext old new
+none_next old new found none is settled = record {
+  answers = λ bytes before at.
+      subst (λ (xs : List Answer). IsAnswered bytes xs new) (append-nil before)
+      (subst (λ (xs : List Answer). IsAnswered bytes (before ++ xs) new) none
+      (is.answers bytes before at));
+  settled = settled;
 }
 
-pub quiet_all : (client : ℕ) (old new : Run) → IsQuiet client old new → AreAll old.clients
-    → AreAll new.clients
-quiet_all client old new is all =
-    (is.only.streams ∙ all.0, ap (λ (v : _). length v.items) is.only.floors ∙ all.1)
+pub need_next : (old new : Stand) (found : Next) → (found ≡ next.Need) ⊎ (found ≡ next.Ended)
+    → IsDue old found new → IsNoneNext old new
+need_next old new found (inl at) is =
+    let own = subst (λ (x : Next). IsDue old x new) at is in
+    none_next old new next.Need refl own own.due
+need_next old new found (inr at) is =
+    let own = subst (λ (x : Next). IsDue old x new) at is in
+    none_next old new next.Ended refl own own.due
 
-quiet_run : (client : ℕ) (old new : Run) → IsQuiet client old new → KeepsRun old new
-quiet_run client old new is s run =
-    told_run s old new run is.desk is.rows
-    (subst (AllByRecursion IsWritable) (sym is.told) run.held)
-    (quiet_all client old new is run.clients)
+pub whole_next : (old new : Stand) (found : Next) (http : HttpRequest) → found ≡ next.Request http
+    → IsDue old found new → IsAnswerNext old (whole http) new
+whole_next old new found http at is =
+    let own = subst (λ (x : Next). IsDue old x new) at is in
+    record { answers = own.answers; there = tt; less = whole_less old new http own.steps }
 
--- a piece came, or nothing more is answered
-pub heard_quietly : (client : ℕ) (piece : List ℕ) (old new : Run) → IsQuiet client old new
-    → ((bytes : List ℕ) (before : List Answer)
-    → IsAnswered bytes before (stand_at old.clients client)
-    → IsAnswered (bytes ++ piece) before (stand_at new.clients client)) → Hears client piece old new
-heard_quietly client piece old new is fed = record {
+pub refused_next : (old new : Stand) (found : Next) (status : ℕ) → found ≡ next.Bad status
+    → IsDue old found new → IsAnswerNext old (refused status) new
+refused_next old new found status at is =
+    let own = subst (λ (x : Next). IsDue old x new) at is in
+    record { answers = own.answers; there = own.due; less = refused_less old new status own.steps }
+
+-- ---- a stream that goes on
+
+-- a piece came, and nothing is found yet
+pub heard_nothing : (client : ℕ) (piece : List ℕ) (old new : Stand) (steps : List Step)
+    → FeedsOn old piece new → Hears client piece old new steps steps
+heard_nothing client piece old new steps fed = record {
   answers = [];
-  fed = λ bytes before at. subst
-      (λ (xs : List Answer). IsAnswered (bytes ++ piece) xs (stand_at new.clients client))
-      (sym (append-nil before)) (fed bytes before at);
-  others = is.only.others;
-  run = quiet_run client old new is;
-  does = λ s p checked setup has. quiet_played client old new p is has;
-  setup = ap (λ (d : DeskParts). d.setup) is.desk;
-  claims = ap (λ (d : DeskParts). d.claims) is.desk;
+  fed = λ bytes before at.
+      subst (λ (xs : List Answer). IsAnswered (bytes ++ piece) xs new) (sym (append-nil before))
+      (fed bytes before at);
+  there = tt;
+  steps = sym (append-nil steps);
 }
 
-pub no_bytes : (client : ℕ) (old new : Run)
-    → ((bytes : List ℕ) (before : List Answer)
-    → IsAnswered bytes before (stand_at old.clients client)
-    → IsAnswered bytes (before ++ []) (stand_at new.clients client))
-    → (bytes : List ℕ) (before : List Answer)
-    → IsAnswered bytes before (stand_at old.clients client)
-    → IsAnswered (bytes ++ []) before (stand_at new.clients client)
-no_bytes client old new next bytes before at =
-    subst (λ (xs : List ℕ). IsAnswered xs before (stand_at new.clients client))
-    (sym (append-nil bytes))
-    (subst (λ (xs : List Answer). IsAnswered bytes xs (stand_at new.clients client))
-    (append-nil before) (next bytes before at))
+pub stands_still : (client : ℕ) (stand : Stand) (steps : List Step)
+    → Hears client [] stand stand steps steps
+stands_still client stand steps =
+    heard_nothing client [] stand stand steps (λ bytes before at.
+    subst (λ (xs : List ℕ). IsAnswered xs before stand) (sym (append-nil bytes)) at)
 
--- an answer was found, and the client was told what is said to it
-pub heard_one : (client : ℕ) (answer : Answer) (old mid new : Run) → IsQuiet client old mid
-    → ((bytes : List ℕ) (before : List Answer)
-    → IsAnswered bytes before (stand_at old.clients client)
-    → IsAnswered bytes (before ++ answer ∷ []) (stand_at mid.clients client))
-    → HasAsked client (Heard answer) mid new → Hears client [] old new
-heard_one client answer old mid new is next asked =
-    let setup : mid.desk.setup ≡ old.desk.setup = ap (λ (d : DeskParts). d.setup) is.desk in
-    let same : (other : ℕ) → stand_at new.clients other ≡ stand_at mid.clients other =
-    λ other. ap (λ (v : _). stand_at (record { streams = v; floors = mid.clients.floors }) other)
-    asked.streams in
-    record {
-      answers = answer ∷ [];
-      fed = λ bytes before at.
-          subst (λ (xs : List ℕ). IsAnswered xs (before ++ answer ∷ [])
-          (stand_at new.clients client)) (sym (append-nil bytes))
-          (subst (IsAnswered bytes (before ++ answer ∷ [])) (sym (same client))
-          (next bytes before at));
-      others = λ other apart. same other ∙ is.only.others other apart;
-      run = λ s run. asked.run s (quiet_run client old mid is s run);
-      does = λ s p checked at has. asked.does s p checked (setup
-          ∙ at) (quiet_played client old mid p is has);
-      setup = asked.setup ∙ setup;
-      claims = asked.claims ∙ ap (λ (d : DeskParts). d.claims) is.desk;
-    }
-
--- ---- steps behind steps
-
-pub play_behind : (s : SetupParts) (p : Played) (xs ys : List Step)
-    → play_from s p (xs ++ ys) ≡ play_from s (play_from s p xs) ys
-play_behind s p [] ys = refl
-play_behind s p (x ∷ xs) ys = play_behind s (play_step s p x) xs ys
-
--- more answers behind those before
-pub heard_then : (client : ℕ) (piece : List ℕ) (old mid new : Run) → Hears client piece old mid
-    → Hears client [] mid new → Hears client piece old new
-heard_then client piece old mid new a b =
-    let ask : Answer → Step = λ answer. Asks client (Heard answer) in
+-- more was found after what was found before
+pub heard_then : (client : ℕ) (piece : List ℕ) (old mid new : Stand) (before so_far after : List Step)
+    → Hears client piece old mid before so_far → Hears client [] mid new so_far after
+    → Hears client piece old new before after
+heard_then client piece old mid new before so_far after a b =
+    let ask : Answer → Step = λ answer. Ask client (ask_of answer) in
     record {
       answers = a.answers ++ b.answers;
-      fed = λ bytes before at.
-          subst (λ (xs : List ℕ). IsAnswered xs (before ++ (a.answers ++ b.answers))
-          (stand_at new.clients client)) (append-nil (bytes ++ piece))
-          (subst (λ (xs : List Answer). IsAnswered ((bytes ++ piece) ++ []) xs
-          (stand_at new.clients client)) (append_assoc before a.answers b.answers)
-          (b.fed (bytes ++ piece) (before ++ a.answers) (a.fed bytes before at)));
-      others = λ other apart. b.others other apart ∙ a.others other apart;
-      run = λ s run. b.run s (a.run s run);
-      does = λ s p checked setup has.
-          subst (λ (q : Played). HasPlayed q new)
-          (sym (ap (play_from s p) (map-append ask a.answers b.answers)
-          ∙ play_behind s p (map ask a.answers) (map ask b.answers)))
-          (b.does s (play_from s p (map ask a.answers)) checked (a.setup
-          ∙ setup) (a.does s p checked setup has));
-      setup = b.setup ∙ a.setup;
-      claims = b.claims ∙ a.claims;
+      fed = λ bytes told at.
+          subst (λ (xs : List ℕ). IsAnswered xs (told ++ (a.answers ++ b.answers)) new)
+          (append-nil (bytes ++ piece))
+          (subst (λ (xs : List Answer). IsAnswered ((bytes ++ piece) ++ []) xs new)
+          (append_assoc told a.answers b.answers)
+          (b.fed (bytes ++ piece) (told ++ a.answers) (a.fed bytes told at)));
+      there = all_append (λ (answer : Answer). IsAskThere (ask_of answer)) a.answers b.answers
+          a.there b.there;
+      steps = b.steps ∙ ap (λ (xs : List Step). xs ++ map ask b.answers) a.steps
+          ∙ append_assoc before (map ask a.answers) (map ask b.answers)
+          ∙ ap (λ (xs : List Step). before ++ xs) (sym (map-append ask a.answers b.answers));
     }
+
+-- an answer was found
+pub heard_one : (client : ℕ) (answer : Answer) (old new : Stand) (steps : List Step)
+    → IsAnswerNext old answer new
+    → Hears client [] old new steps (steps ++ Ask client (ask_of answer) ∷ [])
+heard_one client answer old new steps is = record {
+  answers = answer ∷ [];
+  fed = λ bytes before at.
+      subst (λ (xs : List ℕ). IsAnswered xs (before ++ answer ∷ []) new) (sym (append-nil bytes))
+      (is.answers bytes before at);
+  there = (is.there, tt);
+  steps = refl;
+}
+
+-- the next ask was found
+pub heard_next : (client : ℕ) (piece : List ℕ) (old mid new : Stand) (before so_far after : List Step)
+    (found : Option ClientAsk) (ask : ClientAsk) → Hears client piece old mid before so_far
+    → found ≡ Some ask → IsNextAsk mid found new → after ≡ so_far ++ Ask client ask ∷ []
+    → Hears client piece old new before after
+heard_next client piece old mid new before so_far after found ask a is next_is steps =
+    let own : IsNextAsk mid (Some ask) new =
+    subst (λ (o : Option ClientAsk). IsNextAsk mid o new) is next_is in
+    let one : so_far ++ Ask client (ask_of own.0) ∷ [] ≡ after =
+    ap (λ (x : ClientAsk). so_far ++ Ask client x ∷ []) (sym own.1) ∙ sym steps in
+    heard_then client piece old mid new before so_far after a
+    (subst (λ (xs : List Step). Hears client [] mid new so_far xs) one
+    (heard_one client own.0 mid new so_far own.2))
+
+-- nothing more was
+pub heard_none : (client : ℕ) (piece : List ℕ) (old mid new : Stand) (before after : List Step)
+    → Hears client piece old mid before after → IsNoneNext mid new
+    → Hears client piece old new before after
+heard_none client piece old mid new before after a is = record {
+  answers = a.answers;
+  fed = λ bytes told at. is.answers (bytes ++ piece) (told ++ a.answers) (a.fed bytes told at);
+  there = a.there;
+  steps = a.steps;
+}
 
 -- ---- one more record
 
@@ -174,13 +214,11 @@ answers_more client turns t =
     flat_map-append (answers_in client) turns (t ∷ [])
     ∙ ap (λ (xs : List Answer). answers_of client turns ++ xs) (append-nil (answers_in client t))
 
-steps_more : (s : SetupParts) (turns : List Turn) (t : Turn)
-    → play_all s (steps_of (turns ++ t ∷ [])) ≡ play_from s (play_all s (steps_of turns))
-    (steps_in t)
-steps_more s turns t =
-    ap (play_all s) (flat_map-append steps_in turns (t ∷ [])
-    ∙ ap (λ (xs : List Step). steps_of turns ++ xs) (append-nil (steps_in t)))
-    ∙ play_behind s (played 0 [] [] []) (steps_of turns) (steps_in t)
+steps_more : (turns : List Turn) (t : Turn)
+    → steps_of (turns ++ t ∷ []) ≡ steps_of turns ++ steps_in t
+steps_more turns t =
+    flat_map-append steps_in turns (t ∷ [])
+    ∙ ap (λ (xs : List Step). steps_of turns ++ xs) (append-nil (steps_in t))
 
 take_front : {X : Type 0} (xs ys : List X) (n : ℕ) → n ≤ length xs → take n (xs ++ ys) ≡ take n xs
 take_front xs ys zero le = refl
@@ -188,7 +226,7 @@ take_front [] ys (suc n) le = absurd (omega (arith, le))
 take_front {X} (x ∷ xs) ys (suc n) le =
     ap (λ (zs : List X). x ∷ zs) (take_front xs ys n (omega (arith, le)))
 
-take_whole : {X : Type 0} (xs : List X) (n : ℕ) → length xs ≤ n → take n xs ≡ xs
+pub take_whole : {X : Type 0} (xs : List X) (n : ℕ) → length xs ≤ n → take n xs ≡ xs
 take_whole [] zero le = refl
 take_whole [] (suc n) le = refl
 take_whole (x ∷ xs) zero le = absurd (omega (arith, le))
@@ -199,32 +237,33 @@ pushed : {X : Type 0} (xs : List X) (x : X) → length (xs ++ x ∷ []) ≡ leng
 pushed xs x = length-append xs (x ∷ [])
 
 -- how each client's stream goes on by a record with these answers
-abbrev pub GoOn : Item → List Answer → Clients → Clients → Type 0
+abbrev GoOn : Item → List Answer → List Stand → List Stand → Type 0
 GoOn item answers old new =
     (client : ℕ) → client < CLIENTS → (bytes : List ℕ) (before : List Answer)
-    → IsAnswered bytes before (stand_at old client)
+    → IsAnswered bytes before (stand_in old client)
     → IsAnswered (bytes ++ bytes_in client (turn item answers))
-    (before ++ answers_in client (turn item answers)) (stand_at new client)
+    (before ++ answers_in client (turn item answers)) (stand_in new client)
 
 -- nothing is due where nothing was
-abbrev pub StaySettled : Clients → Clients → Type 0
+abbrev StaySettled : List Stand → List Stand → Type 0
 StaySettled old new =
-    (client : ℕ) → client < CLIENTS → IsSettled (stand_at old client)
-    → IsSettled (stand_at new client)
+    (client : ℕ) → client < CLIENTS → IsSettled (stand_in old client)
+    → IsSettled (stand_in new client)
 
-pub turn_more : (s : SetupParts) (items : List Item) (item : Item) (answers : List Answer)
-    (old new : Run) → IsPlayed s items old
-    → ((p : Played) → HasPlayed p old → HasPlayed (play_from s p (steps_by item answers)) new)
-    → GoOn item answers old.clients new.clients → StaySettled old.clients new.clients
-    → IsPlayed s (items ++ item ∷ []) new
-turn_more s items item answers old new is does on settled =
+turn_more : (items : List Item) (item : Item) (answers : List Answer) (old new : List Stand)
+    (before after : List Step) → IsResolved items old before
+    → AtPieces item answers → after ≡ before ++ steps_by item answers
+    → AllByRecursion IsStepThere (steps_by item answers)
+    → GoOn item answers old new → StaySettled old new
+    → IsResolved (items ++ item ∷ []) new after
+turn_more items item answers old new before after is at_piece steps there on settled =
     let t : Turn = turn item answers in
     let turns : List Turn = is.turns ++ t ∷ [] in
-    let answered : AreAnswered turns new.clients = λ client lt. (
-      subst (λ (xs : List ℕ). IsAnswered xs (answers_of client turns) (stand_at new.clients client))
+    let answered : AreAnswered turns new = λ client lt. (
+      subst (λ (xs : List ℕ). IsAnswered xs (answers_of client turns) (stand_in new client))
           (sym (bytes_more client is.turns t))
           (subst (λ (xs : List Answer). IsAnswered (bytes_of client is.turns ++ bytes_in client t)
-          xs (stand_at new.clients client)) (sym (answers_more client is.turns t))
+          xs (stand_in new client)) (sym (answers_more client is.turns t))
           (on client lt (bytes_of client is.turns) (answers_of client is.turns)
           (is.answered client lt).0)),
       settled client lt (is.answered client lt).1,
@@ -233,225 +272,153 @@ turn_more s items item answers old new is does on settled =
       turns = turns;
       items_are = map-append (λ (x : Turn). x.item) is.turns (t ∷ [])
           ∙ ap (λ (xs : List Item). xs ++ item ∷ []) is.items_are;
-      heard = λ client count lt. elim (cases_lt (length is.turns) count) [
-        | inl past ↦
-            let long : length turns ≤ count = omega (arith, past, pushed is.turns t) in
-            subst (IsHeard client) (sym (take_whole turns count long))
-            (record {
-              stand = stand_at new.clients client;
-              answered = (answered client lt).0;
-              settled = (answered client lt).1;
-            })
-        | inr within ↦ subst (IsHeard client) (sym (take_front is.turns (t ∷ []) count within))
-            (is.heard client count lt)
-      ];
+      streams = record {
+        heard = λ client count lt. elim (cases_lt (length is.turns) count) [
+          | inl past ↦
+              let long : length turns ≤ count = omega (arith, past, pushed is.turns t) in
+              subst (IsHeard client) (sym (take_whole turns count long))
+              (record {
+                stand = stand_in new client;
+                answered = (answered client lt).0;
+                settled = (answered client lt).1;
+              })
+          | inr within ↦ subst (IsHeard client) (sym (take_front is.turns (t ∷ []) count within))
+              (is.streams.heard client count lt)
+        ];
+        at_pieces = all_append (λ (x : Turn). AtPieces x.item x.answers) is.turns (t ∷ [])
+            is.streams.at_pieces (at_piece, tt);
+      };
       answered = answered;
-      played = subst (λ (p : Played). HasPlayed p new) (sym (steps_more s is.turns t))
-          (does (play_all s (steps_of is.turns)) is.played);
+      steps_are = steps
+          ∙ ap (λ (xs : List Step). xs ++ steps_by item answers) is.steps_are
+          ∙ sym (steps_more is.turns t);
+      there = rw steps (all_append IsStepThere before (steps_by item answers) is.there there);
     }
 
 -- ---- records of each kind
 
-quiet_on : (old new : Clients) (client : ℕ) → stand_at new client ≡ stand_at old client
-    → (bytes : List ℕ) (before : List Answer) → IsAnswered bytes before (stand_at old client)
-    → IsAnswered (bytes ++ []) (before ++ []) (stand_at new client)
+quiet_on : (old new : List Stand) (client : ℕ) → stand_in new client ≡ stand_in old client
+    → (bytes : List ℕ) (before : List Answer) → IsAnswered bytes before (stand_in old client)
+    → IsAnswered (bytes ++ []) (before ++ []) (stand_in new client)
 quiet_on old new client same bytes before at =
-    subst (λ (xs : List ℕ). IsAnswered xs (before ++ []) (stand_at new client))
+    subst (λ (xs : List ℕ). IsAnswered xs (before ++ []) (stand_in new client))
     (sym (append-nil bytes))
-    (subst (λ (xs : List Answer). IsAnswered bytes xs (stand_at new client))
+    (subst (λ (xs : List Answer). IsAnswered bytes xs (stand_in new client))
     (sym (append-nil before)) (subst (IsAnswered bytes before) (sym same) at))
 
-same_streams : (old new : Clients) → new.streams ≡ old.streams → (client : ℕ)
-    → stand_at new client ≡ stand_at old client
-same_streams old new same client =
-    ap (λ (v : _). stand_at (record { streams = v; floors = old.floors }) client) same
+-- a record with which no stream goes on
+quiet_more : (items : List Item) (item : Item) (stands : List Stand) (before after : List Step)
+    → IsResolved items stands before → AtPieces item []
+    → ((client : ℕ) → bytes_in client (turn item []) ≡ [])
+    → ((client : ℕ) → answers_in client (turn item []) ≡ [])
+    → after ≡ before ++ steps_by item [] → AllByRecursion IsStepThere (steps_by item [])
+    → IsResolved (items ++ item ∷ []) stands after
+quiet_more items item stands before after is at no_bytes no_answers steps there =
+    turn_more items item [] stands stands before after is at steps there
+    (λ client lt bytes told answered.
+    subst (λ (xs : List ℕ). IsAnswered (bytes ++ xs)
+    (told ++ answers_in client (turn item [])) (stand_in stands client))
+    (sym (no_bytes client))
+    (subst (λ (xs : List Answer). IsAnswered (bytes ++ []) (told ++ xs) (stand_in stands client))
+    (sym (no_answers client)) (quiet_on stands stands client refl bytes told answered)))
+    (λ client lt settled. settled)
 
-stay_settled : (old new : Clients) → new.streams ≡ old.streams → StaySettled old new
-stay_settled old new same client lt is = subst IsSettled (sym (same_streams old new same client)) is
+pub packet_more : (items : List Item) (item : Item) (input : ℕ) (bytes : List ℕ)
+    (stands : List Stand) (steps : List Step) → item ≡ Packet input bytes
+    → IsResolved items stands steps → IsResolved (items ++ item ∷ []) stands steps
+packet_more items item input bytes stands steps at is =
+    subst (λ (x : Item). IsResolved (items ++ x ∷ []) stands steps) (sym at)
+    (quiet_more items (Packet input bytes) stands steps steps is refl (λ client. refl)
+    (λ client. refl) (sym (append-nil steps)) tt)
 
-pub packet_taken : (s : SetupParts) (items : List Item) (input : ℕ) (bytes : List ℕ) (old new : Run)
-    → new ≡ old → IsPlayed s items old → IsPlayed s (items ++ Packet input bytes ∷ []) new
-packet_taken s items input bytes old new same is =
-    subst (IsPlayed s (items ++ Packet input bytes ∷ [])) (sym same)
-    (turn_more s items (Packet input bytes) [] old old is (λ p has. has)
-    (λ client lt. quiet_on old.clients old.clients client refl) (λ client lt settled. settled))
+pub ask_more : (items : List Item) (item : Item) (client : ℕ) (request : Request)
+    (stands : List Stand) (before after : List Step) → item ≡ AskItem client request
+    → client < CLIENTS → after ≡ before ++ Ask client (Asked request) ∷ []
+    → IsResolved items stands before → IsResolved (items ++ item ∷ []) stands after
+ask_more items item client request stands before after at lt steps is =
+    subst (λ (x : Item). IsResolved (items ++ x ∷ []) stands after) (sym at)
+    (quiet_more items (AskItem client request) stands before after is refl (λ client. refl)
+    (λ client. refl) steps ((lt, tt), tt))
 
-pub ask_taken : (s : SetupParts) (items : List Item) (client : ℕ) (request : Request)
-    (old new : Run) → IsSetup s → old.desk.setup ≡ s → HasAsked client (Asked request) old new
-    → IsPlayed s items old
-    → IsPlayed s (items ++ Ask client request ∷ []) new
-ask_taken s items client request old new checked setup asked is =
-    turn_more s items (Ask client request) [] old new is (λ p has. asked.does s p checked setup has)
-    (λ other lt. quiet_on old.clients new.clients other
-    (same_streams old.clients new.clients asked.streams other))
-    (stay_settled old.clients new.clients asked.streams)
+pub work_more : (items : List Item) (item : Item) (claims : ℕ) (stands : List Stand)
+    (before after : List Step) → item ≡ Work claims → after ≡ before ++ Claims claims ∷ []
+    → IsResolved items stands before → IsResolved (items ++ item ∷ []) stands after
+work_more items item claims stands before after at steps is =
+    subst (λ (x : Item). IsResolved (items ++ x ∷ []) stands after) (sym at)
+    (quiet_more items (Work claims) stands before after is refl (λ client. refl)
+    (λ client. refl) steps (tt, tt))
 
-pub work_taken : (s : SetupParts) (items : List Item) (claims : ℕ) (old new : Run)
-    → new.desk.claims ≡ old.desk.claims + claims → new.desk.journal ≡ old.desk.journal
-    → new.replies ≡ old.replies → new.clients ≡ old.clients
-    → IsPlayed s items old → IsPlayed s (items ++ Work claims ∷ []) new
-work_taken s items claims old new more calls told same is =
-    let streams = ap (λ (c : Clients). c.streams) same in
-    turn_more s items (Work claims) [] old new is
-    (λ p has. record {
-      claims = more ∙ ap (λ (n : ℕ). n + claims) has.claims;
-      journal = calls ∙ has.journal;
-      told = told ∙ has.told;
-      floors = λ client lt. ap (λ (c : Clients). floor_at c client) same ∙ has.floors client lt;
-    })
-    (λ client lt. quiet_on old.clients new.clients client
-    (same_streams old.clients new.clients streams client))
-    (stay_settled old.clients new.clients streams)
+-- the asks of a client's stream can be taken
+asks_there : (client : ℕ) (answers : List Answer) → client < CLIENTS
+    → AllByRecursion (λ answer. IsAskThere (ask_of answer)) answers
+    → AllByRecursion IsStepThere (map (λ answer. Ask client (ask_of answer)) answers)
+asks_there client [] lt there = tt
+asks_there client (answer ∷ answers) lt there =
+    ((lt, there.0), asks_there client answers lt there.1)
 
-pub piece_taken : (s : SetupParts) (items : List Item) (client : ℕ) (piece : List ℕ) (old new : Run)
-    → IsSetup s → old.desk.setup ≡ s → Hears client piece old new
-    → IsSettled (stand_at new.clients client) → IsPlayed s items old
-    → IsPlayed s (items ++ Piece client piece ∷ []) new
-piece_taken s items client piece old new checked setup hears settled is =
-    turn_more s items (Piece client piece) hears.answers old new is
-    (λ p has. hears.does s p checked setup has)
-    (λ other lt bytes before at. elim (cases_Bool (eqb client other)) [
+piece_taken : (items : List Item) (client : ℕ) (piece : List ℕ) (old new : List Stand)
+    (before after : List Step) → client < CLIENTS
+    → Hears client piece (stand_in old client) (stand_in new client) before after
+    → IsSettled (stand_in new client)
+    → ((other : ℕ) → eqb client other ≡ false → stand_in new other ≡ stand_in old other)
+    → IsResolved items old before → IsResolved (items ++ Piece client piece ∷ []) new after
+piece_taken items client piece old new before after lt hears settled others is =
+    turn_more items (Piece client piece) hears.answers old new before after is tt hears.steps
+    (asks_there client hears.answers lt hears.there)
+    (λ other lt bytes told at. elim (cases_Bool (eqb client other)) [
       | inl own ↦
           let same : client ≡ other = eqb-true client other own in
-          rw own (subst (λ (c : ℕ). IsAnswered (bytes ++ piece) (before ++ hears.answers)
-          (stand_at new.clients c)) same
-          (hears.fed bytes before
-          (subst (λ (c : ℕ). IsAnswered bytes before (stand_at old.clients c)) (sym same) at)))
-      | inr apart ↦
-          let others = hears.others other (λ e. false≢true (sym apart
-          ∙ eq-eqb client other (sym e))) in
-          rw apart (quiet_on old.clients new.clients other others bytes before at)
+          rw own (subst (λ (c : ℕ). IsAnswered (bytes ++ piece) (told ++ hears.answers)
+          (stand_in new c)) same
+          (hears.fed bytes told
+          (subst (λ (c : ℕ). IsAnswered bytes told (stand_in old c)) (sym same) at)))
+      | inr apart ↦ rw apart (quiet_on old new other (others other apart) bytes told at)
     ])
     (λ other lt due. elim (cases_Bool (eqb client other)) [
-      | inl own ↦ subst (λ (c : ℕ). IsSettled (stand_at new.clients c))
-          (eqb-true client other own) settled
-      | inr apart ↦ subst IsSettled
-          (sym (hears.others other (λ e. false≢true (sym apart ∙ eq-eqb client other (sym e))))) due
+      | inl own ↦ subst (λ (c : ℕ). IsSettled (stand_in new c)) (eqb-true client other own) settled
+      | inr apart ↦ subst IsSettled (sym (others other apart)) due
     ])
+
+-- the stream of one client alone goes on
+pub piece_more : (items : List Item) (item : Item) (client : ℕ) (bytes piece : List ℕ)
+    (old new : List Stand) (from to : Stand) (before after : List Step)
+    → item ≡ Piece client bytes → piece ≡ bytes → client < CLIENTS → length old ≡ CLIENTS
+    → from ≡ stand_in old client → new ≡ slice_set old client to
+    → Hears client piece from to before after × IsSettled to
+    → IsResolved items old before → IsResolved (items ++ item ∷ []) new after
+piece_more items item client bytes piece old new from to before after at same lt long from_is new_is
+    both is =
+    let own : stand_in new client ≡ to =
+    ap (λ (xs : List Stand). slice_index_or xs client ended) new_is
+    ∙ get_or-set_at old client client to ended refl (omega (arith, lt, long)) in
+    subst (λ (x : Item). IsResolved (items ++ x ∷ []) new after)
+    (sym (at ∙ ap (Piece client) (sym same)))
+    (piece_taken items client piece old new before after lt
+    (rw (← from_is, own) both.0) (rw own both.1)
+    (λ other apart. ap (λ (xs : List Stand). slice_index_or xs other ended) new_is
+    ∙ get_or-set_other old client other to ended
+    (λ e. false≢true (sym apart ∙ eq-eqb client other (sym e)))) is)
 
 -- ---- nothing yet
 
 none_due : IsSettled (holds [])
 none_due = inl (omega arith, no_line_open [] refl)
 
-none_heard : (client : ℕ) → IsHeard client []
-none_heard client = record { stand = holds []; answered = refl; settled = none_due }
-
-pub none_played : (s : SetupParts) (run : Run) → run.desk ≡ desk_parts s 0 [] → run.replies ≡ []
-    → AreNew run.clients → IsPlayed s [] run
-none_played s run desk told new = record {
-  turns = [];
-  items_are = refl;
-  heard = λ client count lt. subst (IsHeard client) (sym (take_whole [] count (omega arith)))
-      (none_heard client);
-  answered = λ client lt.
-      (new.stands client lt, subst IsSettled (sym (new.stands client lt)) none_due);
-  played = record {
-    claims = ap (λ (d : DeskParts). d.claims) desk;
-    journal = ap (λ (d : DeskParts). d.journal) desk;
-    told = told;
-    floors = new.floors;
-  };
-}
-
--- ---- clients of whom nothing came
-
-pub are_new : (c : Clients) → c.streams.items ≡ replicate CLIENTS (holds [])
-    → c.floors.items ≡ replicate CLIENTS first_floor → AreNew c
-are_new c streams floors = record {
-  all = (
-    ap length streams ∙ length-replicate CLIENTS (holds []),
-    ap length floors
-        ∙ length-replicate CLIENTS first_floor,
-  );
-  floors = λ client lt. ap (λ (xs : List Stamp). slice_index_or xs client first_floor) floors
-      ∙ get_or-replicate CLIENTS client first_floor first_floor lt;
-  stands = λ client lt. ap (λ (xs : List Stand). slice_index_or xs client ended) streams
-      ∙ get_or-replicate CLIENTS client (holds []) ended lt;
-}
-
--- what holds of what came holds where it is weakened
-pub on_ok : {T E : Type 0} (r : Result T E) (P Q : Type 0) → (P → Q) → OnOk r P → OnOk r Q
-on_ok r P Q f = IfOk-weaker r (λ _. P) (λ _. Q) (λ _ p. f p)
-
--- ---- what is next of a stream
-
--- nothing is answered
-pub next_none : (client : ℕ) (found : Next) (old mid : Run) → answers_found found ≡ []
-    → AnswersOn (stand_at old.clients client) found (stand_at mid.clients client)
-    → IsQuiet client old mid → Hears client [] old mid
-next_none client found old mid none answers is =
-    heard_quietly client [] old mid is (no_bytes client old mid (λ bytes before at.
-    subst (λ (xs : List Answer). IsAnswered bytes (before ++ xs) (stand_at mid.clients client)) none
-    (answers bytes before at)))
-
--- an answer is found
-pub next_one : (client : ℕ) (found : Next) (answer : Answer) (old mid new : Run)
-    → answers_found found ≡ answer ∷ []
-    → AnswersOn (stand_at old.clients client) found (stand_at mid.clients client)
-    → IsQuiet client old mid
-    → HasAsked client (Heard answer) mid new → Hears client [] old new
-next_one client found answer old mid new one answers is asked =
-    heard_one client answer old mid new is (λ bytes before at.
-    subst (λ (xs : List Answer). IsAnswered bytes (before ++ xs) (stand_at mid.clients client)) one
-    (answers bytes before at)) asked
-
-pub quiet : (client : ℕ) (old mid : Run) → mid.desk ≡ old.desk → mid.rows ≡ old.rows
-    → mid.replies ≡ old.replies → IsOnlyStream client old.clients mid.clients
-    → IsQuiet client old mid
-quiet client old mid desk rows told only =
-    record { desk = desk; rows = rows; told = told; only = only }
-
-pub fed_quietly : (client : ℕ) (piece : List ℕ) (old mid : Run)
-    → FeedsOn (stand_at old.clients client) piece (stand_at mid.clients client)
-    → IsQuiet client old mid → Hears client piece old mid
-fed_quietly client piece old mid fed is = heard_quietly client piece old mid is fed
-
-pub none_found : (found : Next) → (found ≡ Need) ⊎ (found ≡ Ended) → answers_found found ≡ []
-none_found found (inl is) = ap answers_found is
-none_found found (inr is) = ap answers_found is
-
--- ---- a record, as it is read
-
-pub both_ok : {T E : Type 0} (r : Result T E) (P Q : Type 0) → OnOk r P → OnOk r Q → OnOk r (P × Q)
-both_ok (Ok x) P Q p q = (p, q)
-both_ok (Err e) P Q p q = tt
-
-pub packet_by : (s : SetupParts) (items : List Item) (item : Item) (input : ℕ) (bytes : List ℕ)
-    (run : Run) → item ≡ Packet input bytes → IsPlayed s items run
-    → IsPlayed s (items ++ item ∷ []) run
-packet_by s items item input bytes run is played =
-    subst (λ (x : Item). IsPlayed s (items ++ x ∷ []) run) (sym is)
-    (packet_taken s items input bytes run run refl played)
-
-pub ask_by : (s : SetupParts) (items : List Item) (item : Item) (client : ℕ) (request : Request)
-    (old new : Run) → item ≡ Ask client request → IsSetup s → old.desk.setup ≡ s
-    → HasAsked client (Asked request) old new → IsPlayed s items old
-    → IsPlayed s (items ++ item ∷ []) new
-ask_by s items item client request old new is checked setup asked played =
-    subst (λ (x : Item). IsPlayed s (items ++ x ∷ []) new) (sym is)
-    (ask_taken s items client request old new checked setup asked played)
-
-pub piece_by : (s : SetupParts) (items : List Item) (item : Item) (client : ℕ)
-    (bytes piece : List ℕ) (old new : Run) → item ≡ Piece client bytes → piece ≡ bytes → IsSetup s
-    → old.desk.setup ≡ s
-    → Hears client piece old new × IsSettled (stand_at new.clients client) → IsPlayed s items old
-    → IsPlayed s (items ++ item ∷ []) new
-piece_by s items item client bytes piece old new is same checked setup both played =
-    subst (λ (x : Item). IsPlayed s (items ++ x ∷ []) new) (sym (is ∙ ap (Piece client) (sym same)))
-    (piece_taken s items client piece old new checked setup both.0 both.1 played)
-
-pub work_by : (s : SetupParts) (items : List Item) (item : Item) (claims : ℕ) (old new : Run)
-    → item ≡ Work claims
-    → parts_of new ≡ serial_parts (old.desk.claims + claims) old.desk.journal old.replies
-    → new.clients ≡ old.clients
-    → IsPlayed s items old → IsPlayed s (items ++ item ∷ []) new
-work_by s items item claims old new is parts clients played =
-    subst (λ (x : Item). IsPlayed s (items ++ x ∷ []) new) (sym is)
-    (work_taken s items claims old new (ap (λ (p : SerialParts). p.claims) parts)
-    (ap (λ (p : SerialParts). p.journal) parts) (ap (λ (p : SerialParts). p.given) parts) clients
-    played)
-
-pub no_claims : (item : Item) (old new : ℕ) → claims_of item ≡ 0 → new ≡ old
-    → new ≡ old + claims_of item
-no_claims item old new none same = omega (arith, none, same)
+pub none_resolved : (stands : List Stand) (steps : List Step)
+    → stands ≡ replicate CLIENTS (holds []) → steps ≡ [] → IsResolved [] stands steps
+none_resolved stands steps new none =
+    let at : (client : ℕ) → client < CLIENTS → stand_in stands client ≡ holds [] = λ client lt.
+    ap (λ (xs : List Stand). slice_index_or xs client ended) new
+    ∙ get_or-replicate CLIENTS client (holds []) ended lt in
+    record {
+      turns = [];
+      items_are = refl;
+      streams = record {
+        heard = λ client count lt. subst (IsHeard client) (sym (take_whole [] count (omega arith)))
+            (record { stand = holds []; answered = refl; settled = none_due });
+        at_pieces = tt;
+      };
+      answered = λ client lt. (at client lt, subst IsSettled (sym (at client lt)) none_due);
+      steps_are = none;
+      there = rw none tt;
+    }

@@ -15,12 +15,12 @@ use Rattle.capture_file.specs.Capture.{CaptureParts, IsCapture}
 use Rattle.capture_file.specs.Items.{IsItemThere, claims_of, item}
 use Rattle.capture_file.specs.Result.{FitsClaim}
 use Rattle.packet_writer.specs.Packet.{Blocks, RowFits, output_of_claim}
-use Rattle.plain_book.specs.declared.calls.JournalCall.{JournalCall}
-use Rattle.plain_book.specs.declared.history.ClaimItem.{ClaimItem}
-use Rattle.plain_book.specs.declared.history.ReplyItem.{ReplyItem}
-use Rattle.plain_book.specs.History.{history_of, in_order}
+use Rattle.book_words.specs.declared.calls.JournalCall.{JournalCall}
+use Rattle.book_words.specs.declared.history.ClaimItem.{ClaimItem}
+use Rattle.book_words.specs.declared.history.ReplyItem.{ReplyItem}
+use Rattle.book_words.specs.History.{history_of, in_order}
 use Rattle.plain_book.proofs.Keeping.{has_outputs}
-use Rattle.plain_book.specs.declared.given.Given.{Given}
+use Rattle.book_words.specs.declared.given.Given.{Given}
 use Rattle.plain_book.specs.Given.{AreGiven}
 use Rattle.plain_book.specs.Journal.{entries_of}
 use Rattle.plain_book.proofs.Giving.{given_legal}
@@ -35,12 +35,14 @@ use Rattle.interleavings.proofs.Telling.{told_replies}
 use Rattle.interleavings.proofs.Whole.{claims_legal}
 use Rattle.serial_player.specs.Asks.{asked_by, says_by}
 use Rattle.serial_player.specs.Legal.{IsLegalClosed}
-use Rattle.serial_player.specs.Run.{IsWritable, IsPlayed, IsRun, begun}
-use Rattle.serial_player.specs.Serial.{Played, asks_of, blocks_of, history_by, packets_in, play_all}
-use Rattle.serial_player.specs.Serial.{played, serial_history, steps_of}
+use Rattle.serial_player.specs.Run.{AreLeft, begun}
+use Rattle.serial_player.specs.Serial.{HasTurns, Played, asks_of, blocks_of, history_by}
+use Rattle.serial_player.specs.Serial.{packets_in, play_all, played, serial_history, steps_of}
 use Rattle.serial_player.specs.Streams.{Turn}
 use Rattle.serial_player.specs.Table.{table_of, HasTick, BlockTable}
-use Rattle.serial_player.specs.declared.player.Run.{Run}
+use Rattle.serial_player.specs.declared.asks.Step.{Step}
+use Rattle.serial_player.specs.declared.run.RunParts.{RunParts}
+use Rattle.serial_player.proofs.Stepping.{all_claims, resolved_claims}
 use Rattle.serial_player.proofs.Tables.{table_has, table_is}
 use Rattle.serial_player.proofs.Ticks.{begun_all}
 use Rattle.serial_player.proofs.Told.{are_given, given_by, said_all, stamps_rise}
@@ -104,14 +106,14 @@ legal_is c turns count =
 -- ---- what all records did
 
 -- the rows rule all claims
-all_ruled : (s : SetupParts) (ticks : ℕ) (run : Run) → IsRun s run
-    → run.desk.claims ≡ ticks * length s.device.outputs
-    → AreRuling s (entries_of s run.desk.journal) (ticks * length s.device.outputs) run.rows
-all_ruled s ticks run is count =
+all_ruled : (s : SetupParts) (ticks : ℕ) (p : Played) (left : RunParts) → IsSetup s
+    → AreLeft s p left → p.claims ≡ ticks * length s.device.outputs
+    → AreRuling s (entries_of s p.journal) (ticks * length s.device.outputs) left.rows
+all_ruled s ticks p left checked is count =
     let n = length s.device.outputs in
-    let whole : begun n run.desk.claims ≡ ticks * n =
-    ap (begun n) count ∙ begun_all n ticks (has_outputs s is.checked) in
-    subst (λ (m : ℕ). AreRuling s (entries_of s run.desk.journal) m run.rows) whole is.rows
+    let whole : begun n p.claims ≡ ticks * n =
+    ap (begun n) count ∙ begun_all n ticks (has_outputs s checked) in
+    subst (λ (m : ℕ). AreRuling s (entries_of s p.journal) m left.rows) whole is.rows
 
 -- the claims that they rule fit the fields of a result
 claims_fit : (s : SetupParts) (journal : List JournalCall) (blocks : Blocks) (count : ℕ)
@@ -140,52 +142,54 @@ made_is : (c : CaptureParts) (p : HistoryParts) (q : Played) → packets_in c �
 made_is c p q count journal replies =
     rw (count, journal, replies) refl
 
--- where all records were done
-pub parts_are : (c : CaptureParts) (run : Run) (p : HistoryParts) → IsCapture c
-    → IsRun c.setup run → IsPlayed c.setup c.items run → run.desk.claims ≡ packets_in c
-    → p.table ≡ table_of c.setup.device c.items c.ticks → p.rows ≡ run.rows
-    → p.journal ≡ run.desk.journal → p.replies ≡ in_order run.replies → AreHistoryParts c p
+-- where all steps were taken
+pub parts_are : (c : CaptureParts) (steps : List Step) (left : RunParts) (p : HistoryParts)
+    → IsCapture c → HasTurns c.items steps → AreLeft c.setup (play_all c.setup steps) left
+    → p.table ≡ table_of c.setup.device c.items c.ticks → p.rows ≡ left.rows
+    → p.journal ≡ left.journal → p.replies ≡ in_order left.replies → AreHistoryParts c p
 unfolding serial_history
-parts_are c run p capture is played count table rows journal replies =
+parts_are c steps left p capture of is table rows journal replies =
     let s = c.setup in
     let blocks = blocks_of c in
-    let steps = steps_of played.turns in
-    let q : Played = play_all s steps in
-    let has = played.played in
+    let checked = capture.setup in
+    let own : steps ≡ steps_of of.turns = of.steps_are in
+    let q : Played = play_all s (steps_of of.turns) in
+    let has : AreLeft s q left =
+    subst (λ (xs : List Step). AreLeft s (play_all s xs) left) own is in
     let inputs = length s.device.inputs in
+    let count : q.claims ≡ packets_in c =
+    all_claims s (steps_of of.turns)
+    ∙ resolved_claims c.items (steps_of of.turns) of.turns of.items_are refl ∙ capture.work in
+    let calls : p.journal ≡ q.journal = journal ∙ has.journal in
     let made : history_by_parts c p ≡ history_by c q =
-    made_is c p q (sym count ∙ has.claims) (journal ∙ has.journal)
-    (replies ∙ ap in_order has.told) in
+    made_is c p q (sym count) calls (replies ∙ ap in_order has.replies) in
     let ruled : AreRuling s (entries_of s p.journal) (packets_in c) p.rows =
-    rw (journal, rows) (all_ruled s c.ticks run is count) in
+    rw (calls, rows) (all_ruled s c.ticks q left checked has count) in
     let few : packets_in c < 256 ^ 8 =
-    omega (arith, few_claims c capture is.checked.device.bounds.few_outputs, capture.work) in
+    omega (arith, few_claims c capture checked.device.bounds.few_outputs, capture.work) in
     record {
       serial = record {
-        turns = played.turns;
-        items_are = played.items_are;
-        streams = played.heard;
+        turns = of.turns;
+        items_are = of.items_are;
+        streams = of.streams;
         value = made;
-        legal = subst (IsLegalClosed c played.turns) (sym made)
-            (legal_is c played.turns (sym has.claims ∙ count));
+        legal = subst (IsLegalClosed c of.turns) (sym made) (legal_is c of.turns count);
       };
       fits = λ fits.
-          let own : AllByRecursion item.Fits (map (λ t. t.item) played.turns) =
-          subst (AllByRecursion item.Fits) (sym played.items_are)
+          let each : AllByRecursion item.Fits (map (λ t. t.item) of.turns) =
+          subst (AllByRecursion item.Fits) (sym of.items_are)
           (recursion_from_All item.Fits c.items fits) in
-          let there : AllByRecursion (IsItemThere inputs) (map (λ t. t.item) played.turns) =
-          subst (AllByRecursion (IsItemThere inputs)) (sym played.items_are)
+          let there : AllByRecursion (IsItemThere inputs) (map (λ t. t.item) of.turns) =
+          subst (AllByRecursion (IsItemThere inputs)) (sym of.items_are)
           (recursion_from_All (IsItemThere inputs) c.items capture.there) in
-          let held : AllByRecursion IsWritable q.told =
-          subst (AllByRecursion IsWritable) has.told is.held in
-          let short : q.claims < 256 ^ 8 = rw (sym has.claims ∙ count) few in
+          let short : q.claims < 256 ^ 8 = rw count few in
           let claims : All (FitsClaim s.device)
           (map (closed_claim s q.journal blocks) (range_with_len 0 q.claims)) =
-          rw (sym has.journal ∙ sym journal, sym has.claims ∙ count)
-          (claims_fit s p.journal blocks (packets_in c) p.rows is.checked few ruled) in
-          rw made (history_fits s blocks steps
-          (map (closed_claim s q.journal blocks) (range_with_len 0 q.claims)) is.checked
-          (steps_fit inputs played.turns own there) short held refl claims);
+          rw (sym calls, count)
+          (claims_fit s p.journal blocks (packets_in c) p.rows checked few ruled) in
+          rw made (history_fits s blocks (steps_of of.turns)
+          (map (closed_claim s q.journal blocks) (range_with_len 0 q.claims)) checked
+          (steps_fit inputs of.turns each there) short has.held refl claims);
       table = table;
       rows = ruled;
     }

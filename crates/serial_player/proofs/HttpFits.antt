@@ -24,14 +24,14 @@ use Rattle.map_entry.specs.declared.cell.Cell.{Cell}
 use Rattle.map_entry.specs.declared.cell.Cell.TheVariants.{Unrouted, From}
 use Rattle.map_entry.specs.declared.change.Change.{Change}
 use Rattle.plain_book.specs.Book.{bad_channel_at, bad_channel_by, bad_channel_of, call_of, reply_of}
-use Rattle.plain_book.specs.Calls.{is_activation}
+use Rattle.book_words.specs.Calls.{is_activation}
 use Rattle.plain_book.specs.Legal.{IsLegalJournal}
-use Rattle.plain_book.specs.declared.calls.JournalCall.{JournalCall}
-use Rattle.plain_book.specs.declared.replies.Refusal.TheVariants.{BadChannel}
-use Rattle.plain_book.specs.declared.requests.Request.{Request}
-use Rattle.plain_book.specs.declared.requests.Request.TheVariants.{Activate, Delete}
-use Rattle.plain_book.specs.declared.requests.When.{When}
-use Rattle.plain_book.specs.declared.requests.When.TheVariants.{Now, At, After}
+use Rattle.book_words.specs.declared.calls.JournalCall.{JournalCall}
+use Rattle.book_words.specs.declared.replies.Refusal.TheVariants.{BadChannel}
+use Rattle.book_words.specs.declared.requests.Request.{Request}
+use Rattle.book_words.specs.declared.requests.Request.TheVariants.{Activate, Delete}
+use Rattle.book_words.specs.declared.requests.When.{When}
+use Rattle.book_words.specs.declared.requests.When.TheVariants.{Now, At, After}
 use Rattle.plain_book.proofs.Accepted.{cases}
 use Rattle.plain_book.proofs.Giving.{accepted_by, call_parts}
 use Rattle.plain_book.proofs.Lists.{all_append}

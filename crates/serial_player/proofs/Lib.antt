@@ -3,7 +3,6 @@ pub mod Places
 pub mod Tables
 pub mod Packets
 pub mod TableClaims
-pub mod Sorting
 pub mod Ticks
 pub mod Running
 pub mod Stepping

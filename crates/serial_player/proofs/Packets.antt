@@ -47,7 +47,7 @@ packets_with {L = L} bytes of inputs lists at new packet items i item lt is brin
       ];
     }
 
--- and with one that doesn't
+-- and with one that does not
 pub packets_without : {P L : Type 0} (bytes : P → List ℕ) (of : L → List P) (inputs : ℕ)
     (lists : List L) (items : List Item) (i : ℕ) (item : Item) → i < length items
     → item ≡ get_or items i item → ((input : ℕ) → packet_at input item ≡ None)

@@ -27,20 +27,20 @@ use Rattle.plain_book.specs.Book.{unknown_by, view_of}
 use Rattle.plain_book.specs.Journal.{entries_of, row_from}
 use Rattle.plain_book.specs.Legal.{IsLegalJournal}
 use Rattle.plain_book.specs.Pending.{is_active, is_pending, next_id, pending_call, pending_of}
-use Rattle.plain_book.specs.Replies.{accepted, item_of}
+use Rattle.book_words.specs.Replies.{accepted, item_of}
 use Rattle.plain_book.specs.Time.{is_past, is_sum_over, is_time_over, land, start, tick_after}
-use Rattle.plain_book.specs.declared.calls.JournalCall.{JournalCall}
-use Rattle.plain_book.specs.declared.replies.Refusal.{Refusal}
-use Rattle.plain_book.specs.declared.replies.Refusal.TheVariants.{Empty, Unknown, BadChannel}
-use Rattle.plain_book.specs.declared.replies.Refusal.TheVariants.{Locked, Row, Time, NotPending}
-use Rattle.plain_book.specs.declared.replies.Refusal.TheVariants.{Full}
-use Rattle.plain_book.specs.declared.replies.Reply.TheVariants.{Deleted, Active, Pending, Refused}
-use Rattle.plain_book.specs.declared.requests.Request.{Request}
-use Rattle.plain_book.specs.declared.requests.Request.TheVariants.{Activate, Delete}
-use Rattle.plain_book.specs.declared.requests.Request.TheVariants.{Active as AskActive}
-use Rattle.plain_book.specs.declared.requests.Request.TheVariants.{Pending as AskPending}
-use Rattle.plain_book.specs.declared.requests.When.{When}
-use Rattle.plain_book.specs.declared.requests.When.TheVariants.{Now, At, After}
+use Rattle.book_words.specs.declared.calls.JournalCall.{JournalCall}
+use Rattle.book_words.specs.declared.replies.Refusal.{Refusal}
+use Rattle.book_words.specs.declared.replies.Refusal.TheVariants.{Empty, Unknown, BadChannel}
+use Rattle.book_words.specs.declared.replies.Refusal.TheVariants.{Locked, Row, Time, NotPending}
+use Rattle.book_words.specs.declared.replies.Refusal.TheVariants.{Full}
+use Rattle.book_words.specs.declared.replies.Reply.TheVariants.{Deleted, Active, Pending, Refused}
+use Rattle.book_words.specs.declared.requests.Request.{Request}
+use Rattle.book_words.specs.declared.requests.Request.TheVariants.{Activate, Delete}
+use Rattle.book_words.specs.declared.requests.Request.TheVariants.{Active as AskActive}
+use Rattle.book_words.specs.declared.requests.Request.TheVariants.{Pending as AskPending}
+use Rattle.book_words.specs.declared.requests.When.{When}
+use Rattle.book_words.specs.declared.requests.When.TheVariants.{Now, At, After}
 use Rattle.plain_book.proofs.Keeping.{has_outputs}
 use Rattle.plain_book.proofs.Locks.{is_free}
 use Rattle.plain_book.proofs.Sound.{IsSound, row_from_is, sound}

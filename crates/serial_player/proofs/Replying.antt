@@ -13,31 +13,31 @@ use Rattle.map_entry.specs.Setup.{SetupParts}
 use Rattle.plain_book.specs.Book.{call_of, reply_of}
 use Rattle.plain_book.specs.Desk.{DeskParts, IsAsked}
 use Rattle.plain_book.specs.Given.{IsGiven, journal_after}
-use Rattle.plain_book.specs.History.{reply_item, stamp}
-use Rattle.plain_book.specs.declared.calls.JournalCall.{JournalCall}
-use Rattle.plain_book.specs.declared.history.ReplyItem.{ReplyItem}
-use Rattle.plain_book.specs.declared.history.Said.{Said}
-use Rattle.plain_book.specs.declared.replies.Reply.{Reply}
-use Rattle.plain_book.specs.declared.requests.Request.{Request}
-use Rattle.plain_book.specs.declared.requests.Stamp.{Stamp}
+use Rattle.book_words.specs.History.{reply_item, stamp}
+use Rattle.book_words.specs.declared.calls.JournalCall.{JournalCall}
+use Rattle.book_words.specs.declared.history.ReplyItem.{ReplyItem}
+use Rattle.book_words.specs.declared.history.Said.{Said}
+use Rattle.book_words.specs.declared.replies.Reply.{Reply}
+use Rattle.book_words.specs.declared.requests.Request.{Request}
+use Rattle.book_words.specs.declared.requests.Stamp.{Stamp}
 use Rattle.plain_book.proofs.Lists.{all_append}
 use Rattle.interleavings.specs.Legal.{accepts, first_floor, next_floor}
 use Rattle.interleavings.proofs.Places.{after_length}
 use Rattle.io_caps.specs.declared.device.DeviceParts.{DeviceParts}
-use Rattle.plain_book.specs.declared.history.Said.TheVariants.{Plain, Http}
-use Rattle.http_wire.specs.Stream.Answer.{whole, refused}
+use Rattle.book_words.specs.declared.history.Said.TheVariants.{Plain, Http}
 use Rattle.http_wire.specs.declared.request.HttpRequest.{HttpRequest}
 use Rattle.api_routes.specs.Answer.{IsServed, OnAt, OnStill, response_of, stream_response}
 use Rattle.api_routes.specs.declared.serve.Answered.{Answered}
 use Rattle.api_routes.specs.Plan.{request_asked}
 use Rattle.api_routes.specs.declared.serve.Answered.TheVariants.{At, Still}
-use Rattle.serial_player.specs.Asks.{ClientAsk, asked_by, says_by}
-use Rattle.serial_player.specs.Asks.ClientAsk.{Asked, Heard}
+use Rattle.serial_player.specs.Asks.{asked_by, says_by}
 use Rattle.serial_player.specs.Run.{AreAll, HasAsked, HasPlayed, IsWritable, IsShort, floor_at}
 use Rattle.serial_player.specs.Serial.{Played, answer_to, floor_of, play_step, told_at, told_by}
-use Rattle.serial_player.specs.Serial.Step.{Asks}
-use Rattle.serial_player.specs.declared.clients.Clients.{Clients}
-use Rattle.serial_player.specs.declared.player.Run.{Run}
+use Rattle.serial_player.specs.declared.asks.ClientAsk.{ClientAsk}
+use Rattle.serial_player.specs.declared.asks.ClientAsk.TheVariants.{Asked, Whole, Refused}
+use Rattle.serial_player.specs.declared.asks.Step.TheVariants.{Ask}
+use Rattle.serial_player.specs.declared.floors.Floors.{Floors}
+use Rattle.serial_player.specs.declared.run.Run.{Run}
 use Rattle.serial_player.proofs.Running.{asked_run, told_run}
 use Rattle.serial_player.proofs.Told.{floor_next, floor_same}
 
@@ -51,7 +51,7 @@ told_one old new client place said told few short held =
 -- ---- where the book was asked
 
 -- the book was asked with the request of an ask; the client is told what is said for its reply, and
--- goes on behind all calls
+-- goes on after all calls
 pub record IsByBook (client : ℕ) (ask : ClientAsk) (old new : Run) : Type 0 where
   pub request : Request
   pub reply : Reply
@@ -61,15 +61,15 @@ pub record IsByBook (client : ℕ) (ask : ClientAsk) (old new : Run) : Type 0 wh
   pub says : says_by old.desk.setup.device ask (Some reply) ≡ Some said
   pub asked : IsAsked old.desk.setup old.desk.journal new.desk.journal client request reply place
   pub at : place.claims ≡ old.desk.claims
+  pub own : new.setup ≡ old.setup
   pub setup : new.desk.setup ≡ old.desk.setup
   pub same : new.desk.claims ≡ old.desk.claims
   pub rows : new.rows ≡ old.rows
   pub told : new.replies ≡ old.replies ++ reply_item client place said ∷ []
   pub few : length new.desk.journal < 256 ^ 8
   pub short : IsShort said
-  pub floors : new.clients.floors.items ≡ slice_set old.clients.floors.items client
+  pub floors : new.floors.places.items ≡ slice_set old.floors.places.items client
       (stamp (length new.desk.journal) new.desk.claims)
-  pub streams : new.clients.streams ≡ old.clients.streams
 
 book_journal : (s : SetupParts) (before after : List JournalCall) (client : ℕ) (request : Request)
     (reply : Reply) (place : Stamp) (claims : ℕ) → IsAsked s before after client request reply place
@@ -88,7 +88,7 @@ by_accepted : (calls claims : ℕ) (b : Bool)
 by_accepted calls claims true = refl
 by_accepted calls claims false = ap (λ (n : ℕ). stamp n claims) (omega arith)
 
--- the place behind the calls so far is the one from which the client goes on
+-- the place after the calls so far is the one from which the client goes on
 floor_is : (s : SetupParts) (p : Played) (client : ℕ) (request : Request)
     (journal : List JournalCall) (claims : ℕ)
     → journal ≡ journal_after s p.journal (answer_to s p client request) → claims ≡ p.claims
@@ -104,24 +104,24 @@ floor_is s p client request journal claims calls same =
     ∙ ap (λ (c : ℕ). stamp (length p.journal + cond (accepts g.reply) 1 0) c) same
     ∙ by_accepted (length p.journal) p.claims (accepts g.reply)
 
-set_floor : (old new : Clients) (client : ℕ) (place : Stamp)
-    → new.floors.items ≡ slice_set old.floors.items client place → client < length old.floors.items
+set_floor : (old new : Floors) (client : ℕ) (place : Stamp)
+    → new.places.items ≡ slice_set old.places.items client place → client < length old.places.items
     → floor_at new client ≡ place
 set_floor old new client place is lt =
     ap (λ (xs : List Stamp). slice_index_or xs client first_floor) is
-    ∙ get_or-set_at old.floors.items client client place first_floor refl lt
+    ∙ get_or-set_at old.places.items client client place first_floor refl lt
 
-kept_floor : (old new : Clients) (client other : ℕ) (place : Stamp)
-    → new.floors.items ≡ slice_set old.floors.items client place → eqb client other ≡ false
+kept_floor : (old new : Floors) (client other : ℕ) (place : Stamp)
+    → new.places.items ≡ slice_set old.places.items client place → eqb client other ≡ false
     → floor_at new other ≡ floor_at old other
 kept_floor old new client other place is apart =
     ap (λ (xs : List Stamp). slice_index_or xs other first_floor) is
-    ∙ get_or-set_other old.floors.items client other place first_floor
+    ∙ get_or-set_other old.places.items client other place first_floor
     (λ e. false≢true (sym apart ∙ eq-eqb client other (sym e)))
 
 book_played : (client : ℕ) (ask : ClientAsk) (old new : Run) (p : Played) → client < CLIENTS
-    → AreAll old.clients → IsByBook client ask old new → HasPlayed p old
-    → HasPlayed (play_step old.desk.setup p (Asks client ask)) new
+    → AreAll old.floors → IsByBook client ask old new → HasPlayed p old
+    → HasPlayed (play_step old.desk.setup p (Ask client ask)) new
 book_played client ask old new p lt all is has =
     let s = old.desk.setup in
     let says = says_by s.device ask in
@@ -152,13 +152,13 @@ book_played client ask old new p lt all is has =
       floors = λ other there. elim (cases_Bool (eqb client other)) [
         | inl own ↦
             let same : client ≡ other = eqb-true client other own in
-            subst (λ (c : ℕ). floor_at new.clients c ≡ floor_of c behind.given) same
-            (set_floor old.clients new.clients client
-            (stamp (length new.desk.journal) new.desk.claims) is.floors (omega (arith, lt, all.1))
+            subst (λ (c : ℕ). floor_at new.floors c ≡ floor_of c behind.given) same
+            (set_floor old.floors new.floors client
+            (stamp (length new.desk.journal) new.desk.claims) is.floors (omega (arith, lt, all))
             ∙ floor_is s p client is.request new.desk.journal new.desk.claims journal claims
             ∙ sym (floor_next s p client says is.request))
         | inr apart ↦
-            kept_floor old.clients new.clients client other
+            kept_floor old.floors new.floors client other
             (stamp (length new.desk.journal) new.desk.claims) is.floors apart
             ∙ has.floors other there
             ∙ sym (floor_same s p client other says (Some is.request) apart)
@@ -166,22 +166,18 @@ book_played client ask old new p lt all is has =
     } in
     subst (λ (o : Option Request). HasPlayed (told_by s p client says o) new) (sym is.asks) done
 
-all_kept : (old new : Clients) (client : ℕ) (place : Stamp)
-    → new.floors.items ≡ slice_set old.floors.items client place → new.streams ≡ old.streams
-    → AreAll old → AreAll new
-all_kept old new client place floors streams all = (
-  ap (λ (v : _). length v.items) streams ∙ all.0,
-  ap length floors
-      ∙ length-set old.floors.items client place ∙ all.1,
-)
+all_kept : (old new : Floors) (client : ℕ) (place : Stamp)
+    → new.places.items ≡ slice_set old.places.items client place → AreAll old → AreAll new
+all_kept old new client place floors all =
+    ap length floors ∙ length-set old.places.items client place ∙ all
 
-pub by_book : (client : ℕ) (ask : ClientAsk) (old new : Run) → client < CLIENTS → AreAll old.clients
+pub by_book : (client : ℕ) (ask : ClientAsk) (old new : Run) → client < CLIENTS → AreAll old.floors
     → IsByBook client ask old new → HasAsked client ask old new
 by_book client ask old new lt all is = record {
   run = λ s run.
       let calls = book_journal old.desk.setup old.desk.journal new.desk.journal client is.request
       is.reply is.place old.desk.claims is.asked is.at in
-      asked_run s old new client is.request run is.setup is.same
+      asked_run s old new client is.request run is.own is.setup is.same
       (calls ∙ ap (λ (x : SetupParts). old.desk.journal ++ option_to_list
       (call_of x old.desk.journal client old.desk.claims is.request
       (reply_of x old.desk.journal old.desk.claims is.request))) run.setup)
@@ -196,19 +192,14 @@ by_book client ask old new lt all is = record {
             is.request
             is.reply)),
       )) is.short run.held)
-      (all_kept old.clients new.clients client (stamp (length new.desk.journal) new.desk.claims)
-      is.floors is.streams all);
+      (all_kept old.floors new.floors client (stamp (length new.desk.journal) new.desk.claims)
+      is.floors all);
   does = λ s p checked setup has. subst
-      (λ (x : SetupParts). HasPlayed (play_step x p (Asks client ask)) new) setup
+      (λ (x : SetupParts). HasPlayed (play_step x p (Ask client ask)) new) setup
       (book_played client ask old new p lt all is has);
-  setup = is.setup;
-  claims = is.same;
-  all = all_kept old.clients new.clients client (stamp (length new.desk.journal) new.desk.claims)
-      is.floors is.streams;
-  streams = is.streams;
 }
 
--- ---- where it wasn't
+-- ---- where it was not
 
 -- the ask has no request for the book: the client is told what is said without it, at the place
 -- from which it goes on
@@ -216,22 +207,23 @@ pub record IsWithout (client : ℕ) (ask : ClientAsk) (old new : Run) : Type 0 w
   pub said : Said
   pub asks : asked_by old.desk.setup.device ask ≡ None
   pub says : says_by old.desk.setup.device ask None ≡ Some said
+  pub own : new.setup ≡ old.setup
   pub desk : new.desk ≡ old.desk
   pub rows : new.rows ≡ old.rows
-  pub told : new.replies ≡ old.replies ++ reply_item client (floor_at old.clients client) said ∷ []
-  pub few : (floor_at old.clients client).calls < 256 ^ 8
+  pub told : new.replies ≡ old.replies ++ reply_item client (floor_at old.floors client) said ∷ []
+  pub few : (floor_at old.floors client).calls < 256 ^ 8
   pub short : IsShort said
-  pub clients : new.clients ≡ old.clients
+  pub floors : new.floors ≡ old.floors
 
 without_played : (client : ℕ) (ask : ClientAsk) (old new : Run) (p : Played) → client < CLIENTS
     → IsWithout client ask old new → HasPlayed p old
-    → HasPlayed (play_step old.desk.setup p (Asks client ask)) new
+    → HasPlayed (play_step old.desk.setup p (Ask client ask)) new
 without_played client ask old new p lt is has =
     let s = old.desk.setup in
     let says = says_by s.device ask in
     let told : new.replies ≡ p.told ++ told_at client (floor_of client p.given) (says None) =
     is.told ∙ ap (λ (xs : List ReplyItem). xs ++ reply_item client
-    (floor_at old.clients client) is.said ∷ []) has.told
+    (floor_at old.floors client) is.said ∷ []) has.told
     ∙ ap (λ (place : Stamp). p.told ++ reply_item client place is.said ∷ []) (has.floors client lt)
     ∙ ap (λ (o : Option Said). p.told ++ told_at client (floor_of client p.given) o)
     (sym is.says) in
@@ -239,42 +231,38 @@ without_played client ask old new p lt is has =
       claims = ap (λ (d : DeskParts). d.claims) is.desk ∙ has.claims;
       journal = ap (λ (d : DeskParts). d.journal) is.desk ∙ has.journal;
       told = told;
-      floors = λ other there. ap (λ (c : Clients). floor_at c other) is.clients
+      floors = λ other there. ap (λ (c : Floors). floor_at c other) is.floors
           ∙ has.floors other there;
     } in
     subst (λ (o : Option Request). HasPlayed (told_by s p client says o) new) (sym is.asks) done
 
 pub without_book : (client : ℕ) (ask : ClientAsk) (old new : Run) → client < CLIENTS
-    → AreAll old.clients → IsWithout client ask old new → HasAsked client ask old new
+    → AreAll old.floors → IsWithout client ask old new → HasAsked client ask old new
 without_book client ask old new lt all is = record {
   run = λ s run.
-      told_run s old new run is.desk is.rows
-      (told_one old.replies new.replies client (floor_at old.clients client) is.said is.told is.few
-      is.short run.held) (subst AreAll (sym is.clients) all);
+      told_run s old new run is.own is.desk is.rows
+      (told_one old.replies new.replies client (floor_at old.floors client) is.said is.told is.few
+      is.short run.held) (subst AreAll (sym is.floors) all);
   does = λ s p checked setup has. subst
-      (λ (x : SetupParts). HasPlayed (play_step x p (Asks client ask)) new) setup
+      (λ (x : SetupParts). HasPlayed (play_step x p (Ask client ask)) new) setup
       (without_played client ask old new p lt is has);
-  setup = ap (λ (d : DeskParts). d.setup) is.desk;
-  claims = ap (λ (d : DeskParts). d.claims) is.desk;
-  all = λ before. subst AreAll (sym is.clients) before;
-  streams = ap (λ (c : Clients). c.streams) is.clients;
 }
 
 -- ---- what clients ask
 
 -- a plain request
 pub plain_asked : (client : ℕ) (request : Request) (reply : Reply) (place : Stamp) (old new : Run)
-    → client < CLIENTS → AreAll old.clients
+    → client < CLIENTS → AreAll old.floors
     → IsAsked old.desk.setup old.desk.journal new.desk.journal client request reply place
     → place.claims ≡ old.desk.claims → new.desk.setup ≡ old.desk.setup
     → old.desk.claims ≡ new.desk.claims → new.rows ≡ old.rows
     → new.replies ≡ old.replies ++ reply_item client place (Plain reply) ∷ []
     → length new.desk.journal < 256 ^ 8
-    → new.clients.floors.items ≡ slice_set old.clients.floors.items client
-    (stamp (length new.desk.journal) new.desk.claims) → new.clients.streams ≡ old.clients.streams
+    → new.floors.places.items ≡ slice_set old.floors.places.items client
+    (stamp (length new.desk.journal) new.desk.claims) → new.setup ≡ old.setup
     → HasAsked client (Asked request) old new
 plain_asked client request reply place old new lt all asked at setup same rows told few floors
-    streams = by_book client (Asked request) old new lt all (record {
+    own = by_book client (Asked request) old new lt all (record {
       request = request;
       reply = reply;
       place = place;
@@ -290,7 +278,7 @@ plain_asked client request reply place old new lt all asked at setup same rows t
       few = few;
       short = tt;
       floors = floors;
-      streams = streams;
+      own = own;
     })
 
 -- what keeps a desk's claims, or the desk
@@ -308,7 +296,7 @@ place_told P answered place is told = let at : OnAt (At place) P =
 -- a whole request of a stream, by the book
 pub http_asked : (client : ℕ) (http : HttpRequest) (d : DeviceParts) (answered : Answered)
     (place : Stamp) (said : Said) (before response : List ℕ) (old new : Run) → client < CLIENTS
-    → AreAll old.clients
+    → AreAll old.floors
     → d ≡ old.desk.setup.device → before ≡ [] → answered ≡ At place
     → IsServed d http old.desk.setup client old.desk.journal new.desk.journal before response
     answered → OnAt answered (λ at. at.claims ≡ old.desk.claims) → new.desk.setup ≡ old.desk.setup
@@ -316,11 +304,11 @@ pub http_asked : (client : ℕ) (http : HttpRequest) (d : DeviceParts) (answered
     → said ≡ Http response → IsShort said
     → new.replies ≡ old.replies ++ reply_item client place said ∷ []
     → length new.desk.journal < 256 ^ 8
-    → new.clients.floors.items ≡ slice_set old.clients.floors.items client
-    (stamp (length new.desk.journal) new.desk.claims) → new.clients.streams ≡ old.clients.streams
-    → HasAsked client (Heard (whole http)) old new
+    → new.floors.places.items ≡ slice_set old.floors.places.items client
+    (stamp (length new.desk.journal) new.desk.claims) → new.setup ≡ old.setup
+    → HasAsked client (Whole http) old new
 http_asked client http d answered place said before response old new lt all device none is served at
-    setup keeps rows said_is short told few floors streams =
+    setup keeps rows said_is short told few floors own =
     let by : IsServed d http old.desk.setup client old.desk.journal new.desk.journal before response
     (At place) =
     subst (IsServed d http old.desk.setup client old.desk.journal new.desk.journal before response)
@@ -328,7 +316,7 @@ http_asked client http d answered place said before response old new lt all devi
     let written = by.2 in
     let text : response ≡ response_of d http (Some written.reply) =
     written.written ∙ ap (λ (xs : List ℕ). xs ++ response_of d http (Some written.reply)) none in
-    by_book client (Heard (whole http)) old new lt all (record {
+    by_book client (Whole http) old new lt all (record {
       request = by.0;
       reply = written.reply;
       place = place;
@@ -346,7 +334,7 @@ http_asked client http d answered place said before response old new lt all devi
       few = few;
       short = short;
       floors = floors;
-      streams = streams;
+      own = own;
     })
 
 still_told : (P : Type 0) (answered : Answered) → answered ≡ Still → OnStill answered P → P
@@ -356,23 +344,23 @@ still_told P answered is told = let at : OnStill Still P =
 -- and without it
 pub http_fixed : (client : ℕ) (http : HttpRequest) (d : DeviceParts) (answered : Answered)
     (floor : Stamp) (said : Said) (before response : List ℕ) (old new : Run) → client < CLIENTS
-    → AreAll old.clients
+    → AreAll old.floors
     → d ≡ old.desk.setup.device → before ≡ [] → answered ≡ Still
     → IsServed d http old.desk.setup client old.desk.journal new.desk.journal before response
     answered → OnStill answered (new.desk ≡ old.desk) → new.rows ≡ old.rows
     → said ≡ Http response → IsShort said
-    → floor ≡ floor_at old.clients client → floor.calls < 256 ^ 8
-    → new.replies ≡ old.replies ++ reply_item client floor said ∷ [] → new.clients ≡ old.clients
-    → HasAsked client (Heard (whole http)) old new
+    → floor ≡ floor_at old.floors client → floor.calls < 256 ^ 8
+    → new.replies ≡ old.replies ++ reply_item client floor said ∷ [] → new.floors ≡ old.floors → new.setup ≡ old.setup
+    → HasAsked client (Whole http) old new
 http_fixed client http d answered floor said before response old new lt all device none is served
-    desk rows said_is short floor_is few told clients =
+    desk rows said_is short floor_is few told floors own =
     let by : IsServed d http old.desk.setup client old.desk.journal new.desk.journal before response
     Still =
     subst (IsServed d http old.desk.setup client old.desk.journal new.desk.journal before response)
     is served in
     let text : response ≡ response_of d http None =
     by.2 ∙ ap (λ (xs : List ℕ). xs ++ response_of d http None) none in
-    without_book client (Heard (whole http)) old new lt all (record {
+    without_book client (Whole http) old new lt all (record {
       said = said;
       asks = ap (λ (x : DeviceParts). request_asked x http) (sym device) ∙ by.0;
       says = ap (λ (x : DeviceParts). Some (Http (response_of x http None))) (sym device)
@@ -383,20 +371,21 @@ http_fixed client http d answered floor said before response old new lt all devi
           floor_is;
       few = subst (λ (place : Stamp). place.calls < 256 ^ 8) floor_is few;
       short = short;
-      clients = clients;
+      floors = floors;
+      own = own;
     })
 
 -- a stream that is refused
 pub refused_fixed : (client status : ℕ) (floor : Stamp) (said : Said) (response : List ℕ)
-    (old new : Run) → client < CLIENTS → AreAll old.clients → response ≡ stream_response status
+    (old new : Run) → client < CLIENTS → AreAll old.floors → response ≡ stream_response status
     → new.desk ≡ old.desk → new.rows ≡ old.rows
-    → said ≡ Http response → IsShort said → floor ≡ floor_at old.clients client
+    → said ≡ Http response → IsShort said → floor ≡ floor_at old.floors client
     → floor.calls < 256 ^ 8 → new.replies ≡ old.replies ++ reply_item client floor said ∷ []
-    → new.clients ≡ old.clients
-    → HasAsked client (Heard (refused status)) old new
+    → new.floors ≡ old.floors → new.setup ≡ old.setup
+    → HasAsked client (Refused status) old new
 refused_fixed client status floor said response old new lt all text desk rows said_is short
-    floor_is few told clients =
-    without_book client (Heard (refused status)) old new lt all (record {
+    floor_is few told floors own =
+    without_book client (Refused status) old new lt all (record {
       said = said;
       asks = refl;
       says = ap (λ (bytes : List ℕ). Some (Http bytes)) (sym text) ∙ ap Some (sym said_is);
@@ -406,5 +395,6 @@ refused_fixed client status floor said response old new lt all text desk rows sa
           floor_is;
       few = subst (λ (place : Stamp). place.calls < 256 ^ 8) floor_is few;
       short = short;
-      clients = clients;
+      floors = floors;
+      own = own;
     })

@@ -12,10 +12,10 @@ use Rattle.capture_file.specs.Result.{result_magic, result_text}
 use Rattle.capture_file.proofs.Between.{woven_bytes, woven_text}
 use Rattle.capture_file.proofs.PartLaws.{shows_all}
 use Rattle.capture_file.specs.Capture.{CaptureParts, IsCapture}
-use Rattle.plain_book.specs.declared.calls.JournalCall.{JournalCall}
-use Rattle.plain_book.specs.declared.history.ClaimItem.{ClaimItem}
-use Rattle.plain_book.specs.declared.history.ReplyItem.{ReplyItem}
-use Rattle.plain_book.specs.History.{history_of}
+use Rattle.book_words.specs.declared.calls.JournalCall.{JournalCall}
+use Rattle.book_words.specs.declared.history.ClaimItem.{ClaimItem}
+use Rattle.book_words.specs.declared.history.ReplyItem.{ReplyItem}
+use Rattle.book_words.specs.History.{history_of}
 use Rattle.plain_book.specs.Journal.{entries_of}
 use Rattle.serial_player.specs.Written.{record_behind, text_by, IsPrepared, IsWritten}
 use Rattle.serial_player.specs.Written.{IsWrittenInPart, IsResultOf}

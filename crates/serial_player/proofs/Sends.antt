@@ -1,4 +1,4 @@
--- Pieces on their way to a sink, one behind the other.
+-- Pieces on their way to a sink, one after the other.
 use Rattle.std.proofs.Common.{◌≡◌, ℕ, suc, ◌+◌, ◌-◌, ◌<◌, List, ◌++◌, Option, ap, subst, zero-add}
 use Rattle.std.proofs.Common.{◌∙◌, append_assoc, arith, sym}
 use Rattle.std.specs.List.{flat_map, range_with_len}
@@ -8,7 +8,7 @@ use Rattle.chan_io.specs.Streams.{TakesOn}
 use Rattle.chan_io.proofs.Sending.{takes_longer}
 use Rattle.list_laws.proofs.Ranges.{range_parts}
 
--- pieces behind one another: those before a number, its own, and the others
+-- pieces one after the other: those before a number, its own, and the others
 pub all_pieces : (f : ℕ → List ℕ) (n k : ℕ) → k < n
     → (others : List ℕ) × (flat_map f (range_with_len 0 n)
     ≡ flat_map f (range_with_len 0 k) ++ (f k ++ others))

@@ -1,21 +1,23 @@
 -- A claim of a table is that of the blocks which the table has at its tick.
 use Rattle.std.proofs.Common.{◌≡◌, ℕ, ◌<◌, Bool, true, false, true≢false, List, [], length, ℤ}
 use Rattle.std.proofs.Common.{Option, Some, None, sym, ap, ◌∙◌}
-use Rattle.std.specs.Prelude.{◌&&◌, is_some, IfNone}
+use Rattle.std.specs.Prelude.{◌&&◌, if◌then◌else◌, is_some, IfNone}
+use Rattle.io_caps.specs.declared.device.DeviceParts.{DeviceParts}
+use Rattle.map_entry.specs.Row.{channels_of}
 use Rattle.std.specs.Option.{unwrap_or}
 use Rattle.map_entry.specs.Entry.{selected}
 use Rattle.map_entry.specs.Setup.{SetupParts}
 use Rattle.map_entry.specs.declared.cell.Cell.{Cell}
 use Rattle.map_entry.specs.declared.entry.Entry.{Entry}
 use Rattle.packet_writer.specs.Flags.{AreClosed, IsFound, is_named, names_by}
-use Rattle.packet_writer.specs.Heard.{TickBlocks}
+use Rattle.packet_writer.specs.Heard.{HasFrames, HaveFrames, TickBlocks}
 use Rattle.packet_writer.specs.Packet.{Blocks, claim_rows, flag_of, output_of_claim, packet_by}
 use Rattle.packet_writer.specs.Packet.{tick_of_claim}
-use Rattle.packet_writer.proofs.ClaimLaws.{closed_finds, closed_flags-only}
+use Rattle.packet_writer.proofs.ClaimLaws.{closed_flags-only}
 use Rattle.packet_writer.proofs.PacketLaws.{is_named-same}
 use Rattle.serial_player.specs.Claim.{HasRow, claim_by}
-use Rattle.serial_player.specs.Table.{BlockTable, HasTick, IsTable, place_of_claim, placed}
-use Rattle.serial_player.proofs.Tables.{past_inputs}
+use Rattle.serial_player.specs.Table.{BlockTable, HasTick, IsTable, found_placed, place_of_claim}
+use Rattle.serial_player.specs.Table.{placed}
 
 -- the row that is selected rules all frames
 pub rows_are : (s : SetupParts) (entries : List Entry) (k output tick : ℕ) (row : List Cell)
@@ -34,8 +36,8 @@ flag_is false there flag marked is seen other = other is
 
 -- what holds where there is none
 pub when_none : {A P : Type 0} (x : Option A) → is_some x ≡ false → IfNone x P → P
-when_none None none then = then
-when_none (Some a) none then = absurd (true≢false none)
+when_none None none own = own
+when_none (Some a) none own = absurd (true≢false none)
 
 -- flags by the row and the table
 pub flags_closed : (s : SetupParts) (entries : List Entry) (blocks : Blocks) (table : BlockTable)
@@ -55,15 +57,26 @@ flags_closed s entries blocks table k row found rows has long each = record {
       ∙ ap (λ (block : Option (List ℤ)). names_by s entries k i && is_some block) (has i);
 }
 
--- what the packet finds of the table
+-- what the packet with given flags finds of the table
 pub found_of : (s : SetupParts) (entries : List Entry) (blocks : Blocks) (table : BlockTable)
-    (k : ℕ) (b : TickBlocks) (found : List Bool)
-    → AreClosed s entries blocks k found → IsTable s.device table → HasTick s table blocks k
-    → ((i : ℕ) → b i ≡ placed table (place_of_claim s k) i) → IsFound s entries k b blocks found
-found_of s entries blocks table k b found are table_is has same i named =
-    same i ∙ has i
-    ∙ closed_finds s entries blocks k found are (λ j past. sym (has j)
-    ∙ past_inputs table (place_of_claim s k) j (rw table_is.long past)) i named
+    (k : ℕ) (b : TickBlocks) (found : List Bool) → HasTick s table blocks k
+    → ((i : ℕ) → b i ≡ found_placed table (place_of_claim s k) found i)
+    → IsFound s entries k b blocks found
+found_of s entries blocks table k b found has same i named =
+    same i ∙ ap (λ (o : Option (List ℤ)). if flag_of found i then o else None) (has i)
+
+-- and its blocks have all frames
+frames_of : (flag : Bool) (block : Option (List ℤ)) (channels frames : ℕ)
+    → HasFrames block channels frames
+    → HasFrames (if flag then block else None) channels frames
+frames_of true block channels frames are = are
+frames_of false block channels frames are = tt
+
+pub found_frames : (d : DeviceParts) (table : BlockTable) (place : ℕ) (found : List Bool)
+    → IsTable d table → HaveFrames d.inputs (found_placed table place found) d.rate.frames
+found_frames d table place found is input =
+    frames_of (flag_of found input) (placed table place input) (channels_of d.inputs input)
+    d.rate.frames (is.whole place input)
 
 -- the claim of these flags and this packet
 pub claim_is : (s : SetupParts) (entries : List Entry) (blocks : Blocks) (k : ℕ) (found : List Bool)

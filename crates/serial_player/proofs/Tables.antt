@@ -162,7 +162,7 @@ packets_more input items i item o made lt is at so_far =
     ∙ ap (λ (y : Item). take i items ++ y ∷ []) (sym is))
     ∙ filter_map-append (packet_at input) (take i items) (item ∷ []))
 
--- a packet that is put behind the others
+-- a packet that is put after the others
 pub packet_pushed : {P : Type 0} (bytes : P → List ℕ) (made : List P) (p : P) (input : ℕ)
     (items : List Item) (i : ℕ) (item : Item) → i < length items → item ≡ get_or items i item
     → packet_at input item ≡ Some (bytes p)

@@ -14,14 +14,14 @@ use Rattle.map_entry.specs.Setup.{IsSetup, SetupParts}
 use Rattle.tai_time.specs.Tick.{tick_start}
 use Rattle.tai_time.specs.Time.{nanos_limit}
 use Rattle.plain_book.specs.Book.{empty_by}
-use Rattle.plain_book.specs.Calls.{is_activation, is_later, is_scheduled}
+use Rattle.book_words.specs.Calls.{is_activation, is_later, is_scheduled}
 use Rattle.plain_book.specs.Full.{places_each, places_of, places_used}
 use Rattle.plain_book.specs.Legal.{IsLegalJournal}
 use Rattle.plain_book.specs.Pending.{next_id}
-use Rattle.plain_book.specs.declared.calls.JournalCall.{JournalCall}
-use Rattle.plain_book.specs.declared.requests.Request.TheVariants.{Activate}
-use Rattle.plain_book.specs.declared.requests.When.{When}
-use Rattle.plain_book.specs.declared.requests.When.TheVariants.{Now, At, After}
+use Rattle.book_words.specs.declared.calls.JournalCall.{JournalCall}
+use Rattle.book_words.specs.declared.requests.Request.TheVariants.{Activate}
+use Rattle.book_words.specs.declared.requests.When.{When}
+use Rattle.book_words.specs.declared.requests.When.TheVariants.{Now, At, After}
 use Rattle.plain_book.proofs.Accepted.{IsActivated, IsDeletion, cases}
 use Rattle.plain_book.proofs.Lists.{IsIn}
 use Rattle.plain_book.proofs.Locks.{is_free}

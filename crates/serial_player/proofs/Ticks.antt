@@ -11,7 +11,7 @@ use Rattle.map_entry.specs.Entry.{selected}
 use Rattle.map_entry.specs.Setup.{IsSetup, SetupParts}
 use Rattle.map_entry.proofs.Channels.{passed_there}
 use Rattle.packet_writer.specs.Packet.{output_of_claim, tick_of_claim}
-use Rattle.plain_book.specs.declared.calls.JournalCall.{JournalCall}
+use Rattle.book_words.specs.declared.calls.JournalCall.{JournalCall}
 use Rattle.plain_book.specs.Journal.{entries_of, row_from}
 use Rattle.plain_book.specs.Legal.{IsLegalJournal}
 use Rattle.plain_book.proofs.Keeping.{has_outputs}

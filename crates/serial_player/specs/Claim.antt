@@ -6,8 +6,8 @@ use Rattle.map_entry.specs.declared.cell.Cell.{Cell}
 use Rattle.map_entry.specs.declared.entry.Entry.{Entry}
 use Rattle.packet_writer.specs.Flags.{closed_flags}
 use Rattle.packet_writer.specs.Packet.{Blocks, RowFits, claim_rows, output_of_claim, packet_by}
-use Rattle.plain_book.specs.declared.history.ClaimItem.{ClaimItem}
-use Rattle.plain_book.specs.History.{claim_item}
+use Rattle.book_words.specs.declared.history.ClaimItem.{ClaimItem}
+use Rattle.book_words.specs.History.{claim_item}
 
 -- one row rules all frames of claim k
 abbrev pub HasRow : SetupParts → List Entry → ℕ → List Cell → Type 0
@@ -25,7 +25,7 @@ RowsFitClaims s first rows =
     → RowFits s.device.inputs (channels_of_output s.device (output_of_claim s (first + at)))
     (slice_index_or rows at [])
 
--- a row for each of the first so many claims, which rules it and fits its output
+-- a row for each of a given number of first claims, which rules it and fits its output
 pub record AreRuling (s : SetupParts) (entries : List Entry) (count : ℕ) (rows : List (List Cell))
     : Type 0 where
   pub long : length rows ≡ count

@@ -4,8 +4,8 @@ use Rattle.std.specs.List.{range_with_len}
 use Rattle.capture_file.specs.Capture.{CaptureParts}
 use Rattle.capture_file.specs.Items.{item}
 use Rattle.capture_file.specs.Result.{FitsHistory}
-use Rattle.plain_book.specs.declared.history.History.{History}
-use Rattle.plain_book.specs.History.{history_of}
+use Rattle.book_words.specs.declared.history.History.{History}
+use Rattle.book_words.specs.History.{history_of}
 use Rattle.plain_book.specs.Journal.{entries_of}
 use Rattle.interleavings.specs.Serial.{closed_claim}
 use Rattle.serial_player.specs.Claim.{AreRuling}

@@ -5,7 +5,8 @@ use Rattle.map_entry.specs.declared.entry.Entry.{Entry}
 use Rattle.map_entry.specs.Row.{channels_of_output}
 use Rattle.packet_writer.specs.Packet.{Blocks, packet_by, output_of_claim, packet_length, RowFits}
 use Rattle.packet_writer.specs.Flags.{AreClosed}
-use Rattle.plain_book.specs.declared.history.ClaimItem.{ClaimItem}
+use Rattle.book_words.specs.declared.history.ClaimItem.{ClaimItem}
+use Rattle.book_words.specs.History.{claim_item}
 use Rattle.serial_player.specs.Claim.{HasRow, HaveRows, claim_by, RowsFitClaims}
 use Rattle.serial_player.specs.Table.{HasTick, IsTable}
 use Rattle.serial_player.specs.declared.claims.AllClaims.{AllClaims}
@@ -44,11 +45,16 @@ AreFlagsOf c found =
     (entries : List Entry) (blocks : Blocks) → IsBy c entries blocks
     → AreClosed c.setup.now entries blocks c.k found
 
--- These bytes are a claim's packet, whatever list of entries and blocks it is by.
-abbrev pub IsPacketOf : OneClaim → List ℕ → Type 0
-IsPacketOf c packet =
-    (entries : List Entry) (blocks : Blocks) (found : List Bool) → IsBy c entries blocks
-    → AreClosed c.setup.now entries blocks c.k found
+-- a claim with given flags, and the packet of the blocks of which they are set
+abbrev pub given_by : OneClaim → List Entry → Blocks → List Bool → ClaimItem
+given_by c entries blocks found =
+    claim_item c.k found (packet_by c.setup.now entries blocks found c.k)
+
+-- These bytes are the packet of a claim with given flags, whatever list of entries and blocks it is
+-- by.
+abbrev pub IsPacketOf : OneClaim → List Bool → List ℕ → Type 0
+IsPacketOf c found packet =
+    (entries : List Entry) (blocks : Blocks) → IsBy c entries blocks
     → packet ≡ packet_by c.setup.now entries blocks found c.k
 
 -- This item is the claim, whatever list of entries and blocks it is by.
@@ -57,13 +63,12 @@ IsClaimOf c made =
     (entries : List Entry) (blocks : Blocks) → IsBy c entries blocks
     → made ≡ made_by c entries blocks
 
--- These bytes are a claim's record, where these are its flags, whatever list of entries and blocks
--- it is by.
+-- These bytes are the record of a claim with given flags, whatever list of entries and blocks it is
+-- by.
 abbrev pub IsRecordOf : OneClaim → List Bool → List ℕ → Type 0
 IsRecordOf c found bytes =
     (entries : List Entry) (blocks : Blocks) → IsBy c entries blocks
-    → AreClosed c.setup.now entries blocks c.k found
-    → bytes ≡ claim_bytes (made_by c entries blocks)
+    → bytes ≡ claim_bytes (given_by c entries blocks found)
 
 -- ---- the first claims
 

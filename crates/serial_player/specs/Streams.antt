@@ -1,12 +1,13 @@
 -- The HTTP streams of a capture's clients, and what is answered to them. (This project's own.)
-use Rattle.std.specs.Prelude.{ℕ, ◌<◌, eqb, if◌then◌else◌, List, [], take}
-use Rattle.std.specs.List.{flat_map}
+use Rattle.std.specs.Prelude.{◌≡◌, ℕ, ◌<◌, eqb, if◌then◌else◌, List, [], take}
+use Rattle.std.specs.List.{AllByRecursion, flat_map}
 use Rattle.io_caps.specs.declared.limits.TheConstants.{CLIENTS}
 use Rattle.http_wire.specs.Stream.{Answer, IsAnswered, IsWaiting, Stand, holds, ended}
 use Rattle.capture_file.specs.declared.items.Item.{Item}
 use Rattle.capture_file.specs.declared.items.Item.TheVariants.{Packet, Piece, Ask, Work}
 
--- a record, and what the stream of its client is answered at it, where it brings a piece of one
+-- A record, and what the stream of its client is answered at it: nothing, where it brings no piece
+-- of one.
 pub record Turn : Type 0 where
   pub item : Item
   pub answers : List Answer
@@ -49,7 +50,15 @@ pub record IsHeard (client : ℕ) (turns : List Turn) : Type 0 where
   pub answered : IsAnswered (bytes_of client turns) (answers_of client turns) stand
   pub settled : IsSettled stand
 
--- The answers are those of the streams: behind each record, each client's stream is answered all
--- that its bytes so far ask, and nothing else.
-abbrev pub AreStreams : List Turn → Type 0
-AreStreams turns = (client count : ℕ) → client < CLIENTS → IsHeard client (take count turns)
+-- nothing is answered at a record that brings no piece of a stream
+abbrev pub AtPieces : Item → List Answer → Type 0
+AtPieces (Packet input bytes) answers = answers ≡ []
+AtPieces (Piece client bytes) answers = Unit {0}
+AtPieces (Ask client request) answers = answers ≡ []
+AtPieces (Work claims) answers = answers ≡ []
+
+-- The answers are those of the streams: after each record, each client's stream is answered all
+-- that its bytes so far ask, and nothing else; and nothing is answered at other records.
+pub record AreStreams (turns : List Turn) : Type 0 where
+  pub heard : (client count : ℕ) → client < CLIENTS → IsHeard client (take count turns)
+  pub at_pieces : AllByRecursion (λ t. AtPieces t.item t.answers) turns

@@ -1,13 +1,13 @@
 -- The blocks of a capture in a table: by input, and then by tick from the first one on. (This
 -- project's own.)
 use Rattle.std.specs.Prelude.{◌≡◌, ℕ, ◌+◌, ◌/◌, List, [], length, map, slice_get, slice_index_or}
-use Rattle.std.specs.Prelude.{Option, None, unwrap_or, ℤ}
+use Rattle.std.specs.Prelude.{Bool, if◌then◌else◌, Option, None, unwrap_or, ℤ}
 use Rattle.std.specs.List.{range_with_len}
 use Rattle.io_caps.specs.declared.device.DeviceParts.{DeviceParts}
 use Rattle.map_entry.specs.Setup.{SetupParts}
 use Rattle.capture_file.specs.declared.items.Item.{Item}
 use Rattle.packet_writer.specs.Heard.{HaveFrames, TickBlocks}
-use Rattle.packet_writer.specs.Packet.{Blocks, tick_of_claim}
+use Rattle.packet_writer.specs.Packet.{Blocks, flag_of, tick_of_claim}
 use Rattle.serial_player.specs.Arrivals.{blocks_in}
 
 -- blocks by input, and then by tick
@@ -23,9 +23,14 @@ input_blocks d items ticks input =
 abbrev pub table_of : DeviceParts → List Item → ℕ → BlockTable
 table_of d items ticks = map (input_blocks d items ticks) (range_with_len 0 (length d.inputs))
 
--- the blocks of a tick at a place behind the first one
+-- the blocks of a tick at a place after the first one
 abbrev pub placed : BlockTable → ℕ → TickBlocks
 placed table place input = unwrap_or (slice_get (slice_index_or table input []) place) None
+
+-- those of them of which a flag is set
+abbrev pub found_placed : BlockTable → ℕ → List Bool → TickBlocks
+found_placed table place found input =
+    if flag_of found input then placed table place input else None
 
 -- it has each input, and each block has all frames of a tick
 pub record IsTable (d : DeviceParts) (table : BlockTable) : Type 0 where

@@ -11,8 +11,8 @@ use Rattle.capture_file.specs.Items.{end_text}
 use Rattle.capture_file.specs.Parts.{between_bytes, claim_bytes}
 use Rattle.capture_file.specs.Records.{ShowsAll}
 use Rattle.capture_file.specs.Result.{FitsHistory, result_magic, result_text}
-use Rattle.plain_book.specs.declared.history.ClaimItem.{ClaimItem}
-use Rattle.plain_book.specs.declared.history.History.{History}
+use Rattle.book_words.specs.declared.history.ClaimItem.{ClaimItem}
+use Rattle.book_words.specs.declared.history.History.{History}
 use Rattle.serial_player.specs.Legal.{IsSerial, KeepsBegunTicks}
 use Rattle.serial_player.specs.HistoryParts.{AreHistoryParts, history_by_parts}
 use Rattle.serial_player.specs.Serial.{packets_in}
@@ -26,11 +26,11 @@ use Rattle.map_entry.specs.declared.entry.Entry.{Entry}
 
 -- ---- the text
 
--- the record of claim k, behind what stands between it and the claim before it
+-- the record of claim k, after what stands between it and the claim before it
 abbrev pub record_behind : List (List ℕ) → (ℕ → ClaimItem) → ℕ → List ℕ
 record_behind between claim_of k = slice_index_or between k [] ++ claim_bytes (claim_of k)
 
--- the magic, so many claims, what stands behind the last one, and the last record
+-- the magic, a given number of claims, what follows the last one, and the last record
 abbrev pub text_by : List (List ℕ) → (ℕ → ClaimItem) → ℕ → List ℕ
 text_by between claim_of claims =
     result_magic
@@ -45,7 +45,7 @@ SendsClaim c old old_waiting new new_waiting =
     (entries : List Entry) (blocks : Blocks) → IsBy c entries blocks
     → SendsOn old old_waiting new new_waiting (claim_bytes (made_by c entries blocks))
 
--- the records of the first claims, each behind what stands between it and the claim before it
+-- the records of the first claims, each after what stands between it and the claim before it
 abbrev pub records_of_all : AllClaims → List (List ℕ) → List Entry → Blocks → List ℕ
 records_of_all c between entries blocks =
     flat_map (record_behind between (all_made_by c entries blocks))
@@ -80,7 +80,7 @@ TakesTextInPart c between old new =
     → TakesPrefix old new (text_by between (all_made_by c entries blocks) (length c.rows.now))
 
 -- The first claims can be given to a sink: they can be made, there is what stands between them and
--- behind the last one, a flag for each input, and a buffer of `BUFFER_LEN` bytes.
+-- after the last one, a flag for each input, and a buffer of `BUFFER_LEN` bytes.
 pub record CanBePut (c : AllClaims) (between : List (List ℕ)) (found : List Bool) (out : Outgoing)
     : Type 0 where
   pub ready : AreReady c

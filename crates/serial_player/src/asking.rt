@@ -1,18 +1,17 @@
-//! The asks of clients: plain requests, and what their HTTP streams are answered.
+//! How a run answers asks: plain requests, and what the HTTP streams of clients ask.
 
-ghost use Rattle.std.specs.Prelude.{◌≡◌, ◌<◌, ◌^◌, [], false, IfOk, OnOk, length};
+ghost use Rattle.std.specs.Prelude.{◌≡◌, ◌<◌, ◌^◌, ◌⊎◌, IfOk, OnOk, length};
+ghost use Rattle.api_routes.specs.Answer.{IsServed, OnAt, OnStill};
 ghost use Rattle.http_wire.specs.Response.{IsStatus};
-ghost use Rattle.http_wire.specs.Stream.Answer.{refused, whole};
 ghost use Rattle.io_caps.specs.declared.limits.TheConstants.{CLIENTS};
-ghost use Rattle.plain_book.specs.History.{stamp};
-ghost use Rattle.plain_book.specs.declared.history.Said.TheVariants.{Http};
-ghost use Rattle.serial_player.specs.Asks.ClientAsk.{Asked, Heard};
-ghost use Rattle.serial_player.specs.Run.{AreAll, HasAsked, Hears, IsShort, stand_at};
-ghost use Rattle.serial_player.specs.Streams.{IsSettled};
+ghost use Rattle.book_words.specs.History.{stamp};
+ghost use Rattle.book_words.specs.declared.history.Said.TheVariants.{Http};
+ghost use Rattle.serial_player.specs.Run.{HasAsked, IsRun, IsShort};
+ghost use Rattle.serial_player.specs.declared.asks.ClientAsk.TheVariants.{Asked, Refused, Whole};
 
-use crate::player::Run;
+use crate::run::Run;
 use api_routes::{Answered, Routes, refuse_stream, serve_request};
-use http_wire::{HttpRequest, Next};
+use http_wire::HttpRequest;
 use io_caps::{Bytes, NoMemory};
 use map_entry::Setup;
 use plain_book::{Desk, PlainDesk, ReplyItem, Request, Said, Stamp};
@@ -22,7 +21,7 @@ use std::alloc::Global;
 /// result.
 const MOST_RESPONSE: usize = u32::MAX as usize - 18;
 
-/// The words of a response. A longer one than a record can hold is want of memory; no capture that
+/// The words of a response. A longer one than a record can hold is out of memory; no capture that
 /// a command reads brings one.
 fn say_response(response: Vec<u8>) -> Result<Said, NoMemory>
     ensures value { IfOk result (λ said. said ≡ Http response.items) }
@@ -34,7 +33,7 @@ fn say_response(response: Vec<u8>) -> Result<Said, NoMemory>
     Ok(Said::Http(Bytes::from_vec(response)))
 }
 
-/// The place behind all calls and claims.
+/// The place after all calls and claims.
 fn place(desk: &PlainDesk) -> Stamp
     ensures value { result ≡ stamp (length desk.now.journal) desk.now.claims }
     ensures few { length desk.now.journal < 256 ^ 8 }
@@ -45,124 +44,86 @@ fn place(desk: &PlainDesk) -> Stamp
     }
 }
 
-/// Answers a client's plain request at the calls and claims so far.
-pub(crate) fn ask(run: &mut Run, client: u8, request: &Request) -> Result<(), NoMemory>
-    requires client { client < CLIENTS }
-    requires all { AreAll run.old.clients }
-    ensures { OnOk result (HasAsked client (Asked request.now) run.old run.new) }
-{
-    let (reply, stamp) = run.desk.ask(client, request)?;
-    run.replies
-        .push(ReplyItem::new(client, stamp, Said::Plain(reply)))?;
-    run.clients.go_on(client, place(&run.desk));
-    Ok(())
-}
-
-/// Answers a whole request of a client's stream: by the book where it is to be asked, and else at
-/// the place from which the client goes on.
-fn serve(
+/// Serves a request over the book of a setup.
+fn serve_over(
     alloc: Global,
     setup: &Setup,
     routes: &Routes,
-    run: &mut Run,
+    desk: &mut PlainDesk,
     client: u8,
     http: &HttpRequest,
-) -> Result<(), NoMemory>
-    requires client { client < CLIENTS }
-    requires all { AreAll run.old.clients }
-    requires setup { run.old.desk.setup ≡ setup.now }
-    ensures { OnOk result (HasAsked client (Heard (whole http.now)) run.old run.new) }
+    out: &mut Vec<u8>,
+) -> Result<Answered, NoMemory>
+    ensures served { IfOk result (IsServed setup.now.device http.now desk.old.setup client
+        desk.old.journal desk.new.journal out.old.items out.new.items) }
+    ensures still { IfOk result (λ answered. OnStill answered (desk.new ≡ desk.old)) }
+    ensures claims { IfOk result (λ answered. OnAt answered
+        (λ stamp. stamp.claims ≡ desk.old.claims)) }
+    ensures setup { desk.new.setup ≡ desk.old.setup }
+    ensures keeps { (desk.new ≡ desk.old) ⊎ (desk.old.claims ≡ desk.new.claims) }
 {
-    let mut response = Vec::new(alloc);
-    let device = &setup.device;
-    match serve_request(
-        alloc,
-        routes,
-        device,
-        &mut run.desk,
-        client,
-        http,
-        &mut response,
-    ) {
-        Ok(Answered::Still) => {
-            let floor = run.clients.floor(client);
-            let said = say_response(response)?;
-            run.replies.push(ReplyItem::new(client, floor, said))
-        }
-        Ok(Answered::At(stamp)) => {
-            let said = say_response(response)?;
-            run.replies.push(ReplyItem::new(client, stamp, said))?;
-            run.clients.go_on(client, place(&run.desk));
-            Ok(())
-        }
+    match serve_request(alloc, routes, &setup.device, desk, client, http, out) {
+        Ok(answered) => Ok(answered),
         Err(_) => Err(NoMemory),
     }
 }
 
-/// Answers a client whose stream is refused, at the place from which it goes on.
-fn refuse(alloc: Global, run: &mut Run, client: u8, status: u16) -> Result<(), NoMemory>
-    requires client { client < CLIENTS }
-    requires all { AreAll run.old.clients }
-    requires status { IsStatus status }
-    ensures { OnOk result (HasAsked client (Heard (refused status)) run.old run.new) }
-{
-    let mut response = Vec::new(alloc);
-    refuse_stream(alloc, status, &mut response)?;
-    let floor = run.clients.floor(client);
-    let said = say_response(response)?;
-    run.replies.push(ReplyItem::new(client, floor, said))
-}
+impl Run {
+    /// Answers a client's plain request at the calls and claims so far.
+    pub(crate) fn ask(&mut self, client: u8, request: &Request) -> Result<(), NoMemory>
+        requires client { client < CLIENTS }
+        requires run { IsRun self.old.setup self.old }
+        ensures { OnOk result (HasAsked client (Asked request.now) self.old self.new) }
+    {
+        let (reply, stamp) = self.desk.ask(client, request)?;
+        self.replies
+            .push(ReplyItem::new(client, stamp, Said::Plain(reply)))?;
+        self.floors.go_on(client, place(&self.desk));
+        Ok(())
+    }
 
-/// Answers what is next of a client's stream, and tells whether there was anything to answer.
-fn answer_next(
-    alloc: Global,
-    setup: &Setup,
-    routes: &Routes,
-    run: &mut Run,
-    client: u8,
-) -> Result<bool, NoMemory>
-    requires client { client < CLIENTS }
-    requires all { AreAll run.old.clients }
-    requires setup { run.old.desk.setup ≡ setup.now }
-    ensures hears { OnOk result (Hears client [] run.old run.new) }
-    ensures settled { IfOk result (λ more. more ≡ false
-        → IsSettled (stand_at run.new.clients client)) }
-    ensures all { OnOk result (AreAll run.new.clients) }
-{
-    match run.clients.next(client)? {
-        Next::Need | Next::Ended => Ok(false),
-        Next::Request(http) => {
-            serve(alloc, setup, routes, run, client, &http)?;
-            Ok(true)
-        }
-        Next::Bad { status } => {
-            refuse(alloc, run, client, status)?;
-            Ok(true)
+    /// Answers a whole request of a client's stream: by the book where it is to be asked, and else
+    /// at the place from which the client goes on.
+    pub(crate) fn serve(&mut self, client: u8, http: &HttpRequest) -> Result<(), NoMemory>
+        requires client { client < CLIENTS }
+        requires run { IsRun self.old.setup self.old }
+        ensures { OnOk result (HasAsked client (Whole http.now) self.old self.new) }
+    {
+        let mut response = Vec::new(self.alloc);
+        match serve_over(
+            self.alloc,
+            &self.setup,
+            &self.routes,
+            &mut self.desk,
+            client,
+            http,
+            &mut response,
+        )? {
+            Answered::Still => {
+                let floor = self.floors.of(client);
+                let said = say_response(response)?;
+                self.replies.push(ReplyItem::new(client, floor, said))
+            }
+            Answered::At(stamp) => {
+                let said = say_response(response)?;
+                self.replies.push(ReplyItem::new(client, stamp, said))?;
+                self.floors.go_on(client, place(&self.desk));
+                Ok(())
+            }
         }
     }
-}
 
-/// Takes a piece of a client's stream, and answers each request that it makes whole.
-pub(crate) fn hear(
-    alloc: Global,
-    setup: &Setup,
-    routes: &Routes,
-    run: &mut Run,
-    client: u8,
-    piece: &[u8],
-) -> Result<(), NoMemory>
-    requires client { client < CLIENTS }
-    requires all { AreAll run.old.clients }
-    requires setup { run.old.desk.setup ≡ setup.now }
-    ensures hears { OnOk result (Hears client piece.now run.old run.new) }
-    ensures settled { OnOk result (IsSettled (stand_at run.new.clients client)) }
-{
-    run.clients.feed(client, piece)?;
-    // No memory holds the replies to so many requests.
-    for _ in 0..u64::MAX {
-        if !answer_next(alloc, setup, routes, run, client)? {
-            return Ok(());
-        }
+    /// Answers a client whose stream is refused, at the place from which it goes on.
+    pub(crate) fn refuse(&mut self, client: u8, status: u16) -> Result<(), NoMemory>
+        requires client { client < CLIENTS }
+        requires run { IsRun self.old.setup self.old }
+        requires status { IsStatus status }
+        ensures { OnOk result (HasAsked client (Refused status) self.old self.new) }
+    {
+        let mut response = Vec::new(self.alloc);
+        refuse_stream(self.alloc, status, &mut response)?;
+        let floor = self.floors.of(client);
+        let said = say_response(response)?;
+        self.replies.push(ReplyItem::new(client, floor, said))
     }
-    Err(NoMemory)
 }

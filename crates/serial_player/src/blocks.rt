@@ -8,7 +8,7 @@ ghost use Rattle.capture_file.specs.Items.{IsItemThere};
 ghost use Rattle.capture_file.specs.Packets.{packet_at};
 ghost use Rattle.capture_file.specs.declared.items.Item.TheVariants.{Packet};
 ghost use Rattle.serial_player.specs.Arrivals.{HavePackets};
-ghost use Rattle.serial_player.specs.Table.{placed, table_of};
+ghost use Rattle.serial_player.specs.Table.{found_placed, placed, table_of};
 
 use block_builder::{Blocks, blocks_of_packets};
 use capture_file::Item;
@@ -17,7 +17,7 @@ use packet_writer::{Looks, Samples, copy_from_block};
 use std::alloc::Global;
 
 /// The blocks of a capture: by input, and then by tick from the first one on.
-pub(crate) type BlockTable = ListOf<Blocks>;
+pub type BlockTable = ListOf<Blocks>;
 
 /// The packets of an input, in order of arrival.
 type Packets<'a> = Vec<&'a [u8]>;
@@ -64,8 +64,9 @@ fn sort_packets<'a>(
     Ok(made)
 }
 
-/// The blocks of each input, for so many ticks.
-pub(crate) fn tabulate(
+/// Returns the blocks of each input, for this many ticks. It takes time in proportion to the bytes
+/// of the packets and of the blocks.
+pub fn tabulate(
     alloc: Global,
     device: &Device,
     items: &[Item],
@@ -84,7 +85,7 @@ pub(crate) fn tabulate(
     Ok(made)
 }
 
-/// The blocks of one tick, by its place behind the first one.
+/// The blocks of one tick, by its place after the first one.
 #[derive(Debug, Drop)]
 pub(crate) struct TickOf<'a> {
     table: &'a [Blocks],
@@ -100,6 +101,28 @@ impl<'a> TickOf<'a> {
     }
 }
 
+/// The blocks of one tick that a claim found, by its flags.
+#[derive(Debug, Drop)]
+pub(crate) struct FoundOf<'a> {
+    table: &'a [Blocks],
+    place: usize,
+    found: &'a [bool],
+}
+
+impl<'a> FoundOf<'a> {
+    pub(crate) fn new(table: &'a [Blocks], place: usize, found: &'a [bool]) -> FoundOf<'a>
+        ensures table { result.table.now ≡ table.now }
+        ensures place { result.place ≡ place }
+        ensures found { result.found.now ≡ found.now }
+    {
+        FoundOf {
+            table,
+            place,
+            found,
+        }
+    }
+}
+
 /// The block of an input at a tick, where there is one.
 fn block_at(table: &[Blocks], place: usize, input: u8) -> Option<&[i32]>
     ensures some { IfSome result (λ samples. placed table.now place input ≡ Some samples.now) }
@@ -112,15 +135,28 @@ fn block_at(table: &[Blocks], place: usize, input: u8) -> Option<&[i32]>
     }
 }
 
-impl<'a> Samples for TickOf<'a> {
-    ghost agrees = { λ s b. (input : ℕ) → b input ≡ placed s.table.now s.place input };
+/// The block of an input at a tick, where its flag is set and there is one.
+fn found_at<'a>(table: &'a [Blocks], place: usize, found: &[bool], input: u8) -> Option<&'a [i32]>
+    ensures some { IfSome result (λ samples.
+        found_placed table.now place found.now input ≡ Some samples.now) }
+    ensures none { IfNone result (found_placed table.now place found.now input ≡ None) }
+{
+    match found.get(input as usize) {
+        Some(true) => block_at(table, place, input),
+        _ => None,
+    }
+}
 
-    ghost stays = { λ before after.
-        (after.table.now ≡ before.table.now) × (after.place ≡ before.place) };
+impl<'a> Samples for FoundOf<'a> {
+    ghost agrees = { λ s b. (input : ℕ)
+        → b input ≡ found_placed s.table.now s.place s.found.now input };
+
+    ghost stays = { λ before after. (after.table.now ≡ before.table.now)
+        × (after.place ≡ before.place) × (after.found.now ≡ before.found.now) };
 
     ghost onward = { record {
-      still = λ a. (refl, refl);
-      on = λ a b c f g. (g.0 ∙ f.0, g.1 ∙ f.1);
+      still = λ a. (refl, refl, refl);
+      on = λ a b c f g. (g.0 ∙ f.0, g.1 ∙ f.1, g.2 ∙ f.2);
     } };
 
     fn copy_channel(
@@ -131,7 +167,7 @@ impl<'a> Samples for TickOf<'a> {
         frame: u16,
         out: &mut [i32],
     ) {
-        match block_at(self.table, self.place, input) {
+        match found_at(self.table, self.place, self.found, input) {
             Some(samples) => {
                 copy_from_block(samples, channels, channel as usize, frame as usize, out)
             }

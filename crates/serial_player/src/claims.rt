@@ -5,7 +5,7 @@ ghost use Rattle.serial_player.specs.Made.{AreClaimsOf, AreFlagsOf, AreReady, Is
 ghost use Rattle.serial_player.specs.Made.{IsPacketOf, IsReady, IsRecordOf, packet_length_of};
 ghost use Rattle.serial_player.specs.Table.{place_of_claim};
 
-use crate::blocks::TickOf;
+use crate::blocks::{FoundOf, TickOf};
 use block_builder::Blocks;
 use capture_file::{CLAIM_HEAD_LEN, write_claim_front};
 use io_caps::{Bytes, Flags, NoMemory};
@@ -14,13 +14,14 @@ use packet_writer::{OneRow, look_at_marked, mark_named, packet_len, write_claim}
 use plain_book::{ClaimItem, ClaimItems};
 use std::alloc::Global;
 
-/// A claim before it is made: its number, the row that rules it, and the blocks of all packets.
+/// A claim before it is made: its number, the row that rules it, and the blocks of all packets. Its
+/// flags are no part of it: they are given, or chosen as those of all blocks that its packet finds.
 #[derive(Drop)]
-pub(crate) struct OneClaim<'a> {
-    pub(crate) setup: &'a Setup,
-    pub(crate) row: &'a [Cell],
-    pub(crate) table: &'a [Blocks],
-    pub(crate) k: u64,
+pub struct OneClaim<'a> {
+    pub setup: &'a Setup,
+    pub row: &'a [Cell],
+    pub table: &'a [Blocks],
+    pub k: u64,
 }
 
 /// The first claims before they are made: the row that rules each, and the blocks of all packets.
@@ -60,18 +61,16 @@ impl<'a> AllClaims<'a> {
 }
 
 impl<'a> OneClaim<'a> {
-    /// The blocks of its tick.
-    fn tick(&self) -> TickOf<'a>
-        ensures table { result.table.now ≡ self.now.table.now }
-        ensures place { result.place ≡ place_of_claim self.now.setup.now self.now.k }
+    /// The place of its tick after the first one.
+    fn place(&self) -> usize
+        ensures { result ≡ place_of_claim self.now.setup.now self.now.k }
     {
         let setup = self.setup;
-        let place = self.k / u64::from(setup.device.outputs());
-        TickOf::new(self.table, place as usize)
+        (self.k / u64::from(setup.device.outputs())) as usize
     }
 
     /// How many bytes its packet has.
-    pub(crate) fn packet_len(&self) -> usize
+    pub fn packet_len(&self) -> usize
         requires { IsReady self.now }
         ensures { result ≡ packet_length_of self.now }
     {
@@ -82,14 +81,14 @@ impl<'a> OneClaim<'a> {
 
     /// Sets the flag of each input whose block its packet finds: its row names the input, and the
     /// block is there.
-    pub(crate) fn set_found(&self, found: &mut [bool])
+    pub fn set_found(&self, found: &mut [bool])
         requires { length found.old ≡ length self.now.setup.now.device.inputs }
         ensures len { length found.new ≡ length found.old }
         ensures flags { AreFlagsOf self.now found.new }
     {
         let setup = self.setup;
         mark_named(&OneRow::new(self.row), setup.device.rate().frames, found);
-        let untold = look_at_marked(&mut self.tick(), found);
+        let untold = look_at_marked(&mut TickOf::new(self.table, self.place()), found);
         // A look at a block in memory always tells.
         prove!(untold.is_none());
     }
@@ -104,14 +103,14 @@ impl<'a> OneClaim<'a> {
         Ok(Flags::from_vec(made))
     }
 
-    /// Writes its packet into bytes of just its length.
-    fn fill_packet(&self, out: &mut [u8])
+    /// Writes its packet, of the blocks of which these flags are set, into bytes of its length.
+    pub fn write_packet(&self, found: &[bool], out: &mut [u8])
         requires ready { IsReady self.now }
         requires room { length out.old ≡ packet_length_of self.now }
-        ensures { IsPacketOf self.now out.new }
+        ensures { IsPacketOf self.now found.now out.new }
     {
         write_claim(
-            &mut self.tick(),
+            &mut FoundOf::new(self.table, self.place(), found),
             self.setup,
             &OneRow::new(self.row),
             self.k,
@@ -119,28 +118,27 @@ impl<'a> OneClaim<'a> {
         );
     }
 
-    /// Its packet.
-    fn packet(&self, alloc: Global) -> Result<Bytes, NoMemory>
+    /// Returns its packet, of the blocks of which these flags are set.
+    pub fn packet(&self, alloc: Global, found: &[bool]) -> Result<Bytes, NoMemory>
         requires { IsReady self.now }
-        ensures { IfOk result (IsPacketOf self.now) }
+        ensures { IfOk result (IsPacketOf self.now found.now) }
     {
         let mut made = vec![in alloc; 0u8; self.packet_len()]?;
-        self.fill_packet(made.as_mut_slice());
+        self.write_packet(found, made.as_mut_slice());
         Ok(Bytes::from_vec(made))
     }
 
-    /// Makes it.
+    /// Makes it, with the flags of all blocks that its packet finds.
     fn make(&self, alloc: Global) -> Result<ClaimItem, NoMemory>
         requires { IsReady self.now }
         ensures { IfOk result (IsClaimOf self.now) }
     {
         let found = self.flags(alloc)?;
-        let packet = self.packet(alloc)?;
+        let packet = self.packet(alloc, found.as_slice())?;
         Ok(ClaimItem::new(self.k, found, packet))
     }
 
-    /// Writes its record, with the flags of the blocks that it found, into bytes of just the
-    /// record's length.
+    /// Writes its record, with these flags, into bytes of just the record's length.
     pub(crate) fn write_record(&self, found: &[bool], out: &mut [u8])
         requires ready { IsReady self.now }
         requires found { length found.now ≡ length self.now.setup.now.device.inputs }
@@ -150,6 +148,6 @@ impl<'a> OneClaim<'a> {
     {
         let (front, packet) = out.split_at_mut(CLAIM_HEAD_LEN + found.len());
         write_claim_front(front, self.k, found, packet.len());
-        self.fill_packet(packet);
+        self.write_packet(found, packet);
     }
 }

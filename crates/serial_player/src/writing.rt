@@ -1,5 +1,5 @@
 //! The result of a capture, given to a sink piece by piece: each packet is made in the buffer,
-//! behind the front of its record.
+//! after the front of its record.
 
 ghost use Rattle.std.specs.Prelude.{◌≡◌, ◌≤◌, ◌+◌, ◌++◌, [], ℕ, All, IfErr, IfOk, List, OnOk};
 ghost use Rattle.std.specs.Prelude.{length, take};
@@ -27,7 +27,7 @@ const BUFFER_LEN: usize = 65_536;
 
 const _: () = prove!(BUFFER_LEN == 65_536);
 
-/// Writes the record of a claim, of so many bytes, into a buffer from a place on.
+/// Writes the record of a claim, of a given number of bytes, into a buffer from a place on.
 fn write_record_at(of: &OneClaim, found: &[bool], buffer: &mut [u8], at: usize, len: usize)
     requires ready { IsReady of.now }
     requires found { length found.now ≡ length of.now.setup.now.device.inputs }
@@ -40,7 +40,7 @@ fn write_record_at(of: &OneClaim, found: &[bool], buffer: &mut [u8], at: usize, 
     of.write_record(found, &mut room[..len]);
 }
 
-/// Puts the record of a claim behind the bytes that wait. `found` is for its flags.
+/// Puts the record of a claim after the bytes that wait. `found` is for its flags.
 fn put_claim<K: Sink>(
     of: &OneClaim,
     found: &mut [bool],
@@ -65,7 +65,7 @@ fn put_claim<K: Sink>(
     Ok(())
 }
 
-/// Puts the records of the first claims behind the bytes that wait, each behind what stands between
+/// Puts the records of the first claims after the bytes that wait, each after what stands between
 /// it and the claim before it. `found` is for the flags of a claim.
 fn put_claims<K: Sink>(
     claims: &AllClaims,
@@ -122,7 +122,7 @@ pub(crate) struct Prepared {
     pub(crate) out: Outgoing,
 }
 
-/// Does what a setup's records say, whose claims fill so many ticks, and takes all memory that
+/// Does what a setup's records say, whose claims fill `ticks` ticks, and takes all memory that
 /// their result wants.
 fn prepare(alloc: Global, setup: &Setup, items: &[Item], ticks: u64) -> Result<Prepared, NoMemory>
     requires capture { IsCapture (capture_of setup.now items.now ticks) }
@@ -144,7 +144,7 @@ fn prepare(alloc: Global, setup: &Setup, items: &[Item], ticks: u64) -> Result<P
     })
 }
 
-/// Gives a sink the result of a setup's records, whose claims fill so many ticks.
+/// Gives a sink the result of a setup's records, whose claims fill `ticks` ticks.
 fn write_items<K: Sink>(
     alloc: Global,
     setup: &Setup,

@@ -1,6 +1,6 @@
 use Rattle.std.proofs.Common.{◌++◌, ◌∷◌, [], List, map, sym, ap, ◌∙◌}
 use Rattle.std.specs.List.{range_with_len}
-use Rattle.plain_book.specs.declared.history.ClaimItem.{ClaimItem}
+use Rattle.book_words.specs.declared.history.ClaimItem.{ClaimItem}
 use Rattle.serial_player.specs.Made.{all_made_by}
 use Rattle.serial_player.proofs.Ranges.{map_range_more}
 use Rattle.serial_player.proofs.claims.AllClaims.make.Goals as goal

@@ -9,4 +9,4 @@ returns c = λ entries blocks by.
     let of = c.args.self.now in
     c.new.ensures
     ∙ claim_is of.setup.now entries blocks of.k found c.in_ok-packet.packet closed
-    (c.in_ok-packet.ensures entries blocks found by closed)
+    (rw c.as_slice.ensures at (c.in_ok-packet.ensures entries blocks by))

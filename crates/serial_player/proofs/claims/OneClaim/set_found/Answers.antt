@@ -18,7 +18,7 @@ returns-clause-flags c = λ entries blocks by.
     let row = of.row.now in
     let n = s.device.rate.frames in
     let look = c.look_at_marked-untold.ensures in
-    let tick = c.tick.result in
+    let tick = c.new-2.result in
     let here = λ (i : ℕ). is_some (placed table (place_of_claim s k) i) in
     let frames : c.rate.result.frames ≡ n =
     ap (λ (r : Rate). r.frames) c.rate.ensures.value
@@ -42,7 +42,7 @@ returns-clause-flags c = λ entries blocks by.
     ∙ ap (λ (m : ℕ). is_named m (λ f. c.new.result.row.now) i) frames
     ∙ ap (λ (r : List Cell). is_named n (λ f. r) i) (c.new.ensures.row 0) in
     let same : is_some (placed tick.table.now tick.place i) ≡ here i =
-    rw (c.tick.ensures.table, c.tick.ensures.place) refl in
+    rw (c.new-2.ensures.table, c.new-2.ensures.place, c.place.ensures) refl in
     let seen = look.kept i (is_some (placed tick.table.now tick.place i)) refl in
     flag_is (is_named n (λ f. row) i) (here i) (flag_of found i) (flag_of flags i) marked
     (λ set. set_told i within set ∙ sym seen ∙ same) (λ none. unset_told i within none) in
