@@ -1,161 +1,149 @@
--- How a run over a source that tells its bytes can't end.
-use Rattle.std.proofs.Common.{◌≡◌, ℕ, ◌<◌, List, ◌++◌, length, Option, Some, None, inl, inr, sym}
-use Rattle.std.proofs.Common.{ap, subst, ◌∙◌, refl, arith}
-use Rattle.std.specs.Prelude.{◌⊎◌, Result, Err, IsErrOf}
-use Rattle.std.proofs.lemmas.List.{append-nil, length-append}
-use Rattle.chan_io.specs.Streams.{WholeRead, LongRead}
-use Rattle.capture_file.specs.Capture.{IsCaptureText}
-use Rattle.capture_file.specs.declared.fault.CaptureFault.{CaptureFault}
+-- How a run ends, from how its command did.
+use Rattle.std.proofs.Common.{◌≡◌, ℕ, ◌+◌, ◌<◌, ◌≤◌, List, length, Option, Some, inl, inr, refl}
+use Rattle.std.proofs.Common.{sym, ap, subst, arith}
+use Rattle.std.specs.Prelude.{◌⊎◌}
+use Rattle.chan_io.specs.Streams.{BoundedRead}
+use Rattle.capture_file.specs.declared.fault.CaptureKind.{CaptureKind}
 use Rattle.chanmap.specs.declared.command.Command.{Command}
-use Rattle.chanmap.specs.declared.command.Command.TheVariants.{Serial}
-use Rattle.chanmap.specs.declared.top.TheConstants.{MOST_BYTES}
+use Rattle.chanmap.specs.declared.input.TheConstants.{MOST_BYTES}
 use Rattle.chanmap.specs.declared.end.End.{End}
 use Rattle.chanmap.specs.declared.end.End.TheVariants.{Usage, ReadFault, WriteFault, Refused}
 use Rattle.chanmap.specs.declared.end.End.TheVariants.{TooLong, NoMemory}
-use Rattle.chanmap.specs.Top.{HoldsCapture, HoldsFault, HoldsTooMuch, IsAnswer, IsCutShort, IsDone}
-use Rattle.chanmap.specs.Top.{IsFaulty, IsRefusedAt, status_of}
+use Rattle.chanmap.specs.End.{IsToldEnd, status_of}
+use Rattle.chanmap.specs.World.{World, LineFailed, ReadFailed, WriteFailed}
+use Rattle.chanmap.specs.Top.{HasRead, Holds, IsAnswer, IsCause, IsDone, IsFaultAt, IsInput, IsRun}
+use Rattle.chanmap.specs.Top.{IsRunOf}
+use Rattle.chanmap.proofs.Tables.{held, known, longer, short, sound, well_known}
 
--- what was read to the end is what the source held
-whole_told : (held : List ℕ) (left : Option (List ℕ)) (limit : ℕ) (bytes : List ℕ)
-    → WholeRead (Some held) left limit bytes → held ≡ bytes
-whole_told held None limit bytes read = absurd read.alike
-whole_told held (Some rest) limit bytes read =
-    read.read ∙ ap (λ (behind : List ℕ). bytes ++ behind) read.ended ∙ append-nil bytes
+-- ---- what cannot be
 
-long_told : (held : List ℕ) (left : Option (List ℕ)) (limit : ℕ) → LongRead (Some held) left limit
-    → limit < length held
-long_told held None limit long = absurd long.alike
-long_told held (Some rest) limit long =
-    omega (arith, ap length long.read, length-append long.bytes rest, long.long)
+-- what was held and got an answer has no fault
+answered : (command : Command) (before after : World) (bytes told text : List ℕ) (at : ℕ)
+    (kind : CaptureKind) → HasRead command before after bytes → Holds command before told
+    → IsAnswer command bytes text → IsFaultAt command told at kind → ⊥
+answered command before after bytes told text at kind read holds answer fault =
+    let same = held command before after bytes told read holds in
+    sound command told text at kind
+    (subst (λ (b : List ℕ). IsAnswer command b text) same answer) fault
 
--- what a command answers has no fault
-sound : (command : Command) (bytes text : List ℕ) (fault : CaptureFault)
-    → IsAnswer command bytes text → IsRefusedAt bytes fault.at fault.kind → ⊥
-sound Serial bytes text fault answer refused = answer.input.sound fault.at fault.kind refused
+-- what was held and read is not too long
+shorter : (command : Command) (before after : World) (bytes told : List ℕ)
+    → HasRead command before after bytes → Holds command before told
+    → MOST_BYTES < length told → ⊥
+shorter command before after bytes told read holds long =
+    let same = ap length (held command before after bytes told read holds) in
+    omega (arith, same, short command before after bytes read, long)
 
-answered : (command : Command) (old new : Option (List ℕ)) (bytes text : List ℕ)
-    (fault : CaptureFault) → HoldsFault old fault
-    → WholeRead old new MOST_BYTES bytes → IsAnswer command bytes text → ⊥
-answered command None new bytes text fault holds read answer = holds
-answered command (Some held) new bytes text fault holds read answer =
-    sound command bytes text fault answer
-    (subst (λ (b : List ℕ). IsRefusedAt b fault.at fault.kind)
-    (whole_told held new MOST_BYTES bytes read) holds.1)
+-- ---- which status comes
 
-pub done_answered : (command : Command) (old new taken_old taken_new : Option (List ℕ))
-    (fault : CaptureFault) → HoldsFault old fault
-    → IsDone command old new taken_old taken_new → ⊥
-done_answered command old new taken_old taken_new fault holds done =
-    answered command old new done.bytes done.given.text fault holds done.read done.given.answer
-
-fault_longer : (old new : Option (List ℕ)) (fault : CaptureFault) → HoldsFault old fault
-    → LongRead old new MOST_BYTES → ⊥
-fault_longer None new fault holds long = holds
-fault_longer (Some held) new fault holds long = let past = long_told held new MOST_BYTES long in
-    omega (arith, past, holds.0)
-
-capture_longer : (old new : Option (List ℕ)) → HoldsCapture old → LongRead old new MOST_BYTES → ⊥
-capture_longer None new holds long = holds
-capture_longer (Some held) new holds long = let past = long_told held new MOST_BYTES long in
-    omega (arith, past, holds.0)
-
-capture_faulty : (old new : Option (List ℕ)) (fault : CaptureFault) → HoldsCapture old
-    → IsFaulty old new fault → ⊥
-capture_faulty None new fault holds is = holds
-capture_faulty (Some held) new fault holds is =
-    is.faulty.none holds.1
-    (subst (IsCaptureText holds.1) (whole_told held new MOST_BYTES is.bytes is.read) holds.2)
-
-shorter : (old new : Option (List ℕ)) (bytes : List ℕ) → HoldsTooMuch old
-    → WholeRead old new MOST_BYTES bytes → ⊥
-shorter None new bytes holds read = holds
-shorter (Some held) new bytes holds read =
-    let same = ap length (whole_told held new MOST_BYTES bytes read) in
-    omega (arith, same, read.short, holds)
-
-pub done_shorter : (command : Command) (old new taken_old taken_new : Option (List ℕ))
-    → HoldsTooMuch old
-    → IsDone command old new taken_old taken_new → ⊥
-done_shorter command old new taken_old taken_new holds done =
-    shorter old new done.bytes holds done.read
-
--- a capture gets its result
-pub completes : {T : Type 0} (result : Result T End) (end : End) (found : Option Command)
-    (command : Command)
-    (Read Write : Type 0) (old new : Option (List ℕ))
-    → result ≡ Err end → (IsErrOf result Usage → found ≡ None)
-    → (IsErrOf result ReadFault → Read) → (IsErrOf result WriteFault → Write)
-    → ((fault : CaptureFault) → IsErrOf result (Refused fault) → IsFaulty old new fault)
-    → (IsErrOf result TooLong → LongRead old new MOST_BYTES)
-    → found ≡ Some command → HoldsCapture old → (Read → ⊥) → (Write → ⊥)
+-- an input gets its answer
+completes : (command : Command) (before after : World) (end : End) (told : List ℕ)
+    → IsCause command before after end → Holds command before told → length told ≤ MOST_BYTES
+    → IsInput command told → (ReadFailed before after → ⊥) → (WriteFailed before after → ⊥)
     → (status_of end ≡ 0) ⊎ (status_of end ≡ 12)
-completes result Usage found command Read Write old new is usage read write refused long words holds
-    calm quiet =
-    let none : None ≡ Some command = sym (usage is) ∙ words in absurd cc
-completes result ReadFault found command Read Write old new is usage read write refused long words
-    holds calm quiet = absurd (calm (read is))
-completes result WriteFault found command Read Write old new is usage read write refused long words
-    holds calm quiet = absurd (quiet (write is))
-completes result (Refused fault) found command Read Write old new is usage read write refused long
-    words holds calm quiet =
-    absurd (capture_faulty old new fault holds (refused fault is))
-completes result TooLong found command Read Write old new is usage read write refused long words
-    holds calm quiet =
-    absurd (capture_longer old new holds (long is))
-completes result NoMemory found command Read Write old new is usage read write refused long words
-    holds calm quiet = inr refl
+completes command before after Usage told cause holds fits input calm quiet = absurd cause
+completes command before after ReadFault told cause holds fits input calm quiet =
+    absurd (calm cause.0)
+completes command before after WriteFault told cause holds fits input calm quiet =
+    absurd (quiet cause.0)
+completes command before after (Refused fault) told cause holds fits input calm quiet =
+    let same = held command before after cause.bytes told cause.read holds in
+    absurd (cause.faulty.none (subst (IsInput command) (sym same) input))
+completes command before after TooLong told cause holds fits input calm quiet =
+    let long = longer command before after told cause holds in absurd (omega (arith, long, fits))
+completes command before after NoMemory told cause holds fits input calm quiet = inr refl
 
 -- bytes with a fault are refused
-pub refuses : {T : Type 0} (result : Result T End) (end : End) (found : Option Command)
-    (command : Command)
-    (fault : CaptureFault) (Failed : Type 0) (old new taken_old taken_new : Option (List ℕ))
-    → result ≡ Err end → (IsErrOf result Usage → found ≡ None)
-    → (IsErrOf result ReadFault → Failed)
-    → (IsErrOf result WriteFault → (c : Command) → found ≡ Some c
-    → IsCutShort c old new taken_old taken_new)
-    → (IsErrOf result TooLong → LongRead old new MOST_BYTES)
-    → found ≡ Some command → HoldsFault old fault → (Failed → ⊥)
+refuses : (command : Command) (before after : World) (end : End) (told : List ℕ) (at : ℕ)
+    (kind : CaptureKind) → IsCause command before after end → Holds command before told
+    → length told ≤ MOST_BYTES → IsFaultAt command told at kind → (ReadFailed before after → ⊥)
     → (status_of end ≡ 5) ⊎ (status_of end ≡ 12)
-refuses result Usage found command fault Failed old new taken_old taken_new is usage read write long
-    words holds calm =
-    let none : None ≡ Some command = sym (usage is) ∙ words in absurd cc
-refuses result ReadFault found command fault Failed old new taken_old taken_new is usage read write
-    long words holds calm = absurd (calm (read is))
-refuses result WriteFault found command fault Failed old new taken_old taken_new is usage read write
-    long words holds calm =
-    let cut = write is command words in
-    absurd (answered command old new cut.bytes cut.given.text fault holds cut.read cut.given.answer)
-refuses result (Refused other) found command fault Failed old new taken_old taken_new is usage read
-    write long words holds calm = inl refl
-refuses result TooLong found command fault Failed old new taken_old taken_new is usage read write
-    long words holds calm =
-    absurd (fault_longer old new fault holds (long is))
-refuses result NoMemory found command fault Failed old new taken_old taken_new is usage read write
-    long words holds calm = inr refl
+refuses command before after Usage told at kind cause holds fits fault calm = absurd cause
+refuses command before after ReadFault told at kind cause holds fits fault calm =
+    absurd (calm cause.0)
+refuses command before after WriteFault told at kind cause holds fits fault calm =
+    let cut = cause.1 in
+    absurd (answered command before after cut.bytes told cut.given.text at kind cut.read holds
+    cut.given.answer fault)
+refuses command before after (Refused other) told at kind cause holds fits fault calm = inl refl
+refuses command before after TooLong told at kind cause holds fits fault calm =
+    let long = longer command before after told cause holds in absurd (omega (arith, long, fits))
+refuses command before after NoMemory told at kind cause holds fits fault calm = inr refl
 
 -- more bytes than the most are too long
-pub stops : {T : Type 0} (result : Result T End) (end : End) (found : Option Command)
-    (command : Command)
-    (Failed : Type 0) (old new taken_old taken_new : Option (List ℕ))
-    → result ≡ Err end → (IsErrOf result Usage → found ≡ None)
-    → (IsErrOf result ReadFault → Failed)
-    → (IsErrOf result WriteFault → (c : Command) → found ≡ Some c
-    → IsCutShort c old new taken_old taken_new)
-    → ((fault : CaptureFault) → IsErrOf result (Refused fault) → IsFaulty old new fault)
-    → found ≡ Some command → HoldsTooMuch old → (Failed → ⊥) → (status_of end ≡ 7)
-    ⊎ (status_of end ≡ 12)
-stops result Usage found command Failed old new taken_old taken_new is usage read write refused
-    words holds calm =
-    let none : None ≡ Some command = sym (usage is) ∙ words in absurd cc
-stops result ReadFault found command Failed old new taken_old taken_new is usage read write refused
-    words holds calm = absurd (calm (read is))
-stops result WriteFault found command Failed old new taken_old taken_new is usage read write refused
-    words holds calm =
-    let cut = write is command words in absurd (shorter old new cut.bytes holds cut.read)
-stops result (Refused fault) found command Failed old new taken_old taken_new is usage read write
-    refused words holds calm =
-    let faulty = refused fault is in absurd (shorter old new faulty.bytes holds faulty.read)
-stops result TooLong found command Failed old new taken_old taken_new is usage read write refused
-    words holds calm = inl refl
-stops result NoMemory found command Failed old new taken_old taken_new is usage read write refused
-    words holds calm = inr refl
+stops : (command : Command) (before after : World) (end : End) (told : List ℕ)
+    → IsCause command before after end → Holds command before told → MOST_BYTES < length told
+    → (ReadFailed before after → ⊥) → (status_of end ≡ 7) ⊎ (status_of end ≡ 12)
+stops command before after Usage told cause holds long calm = absurd cause
+stops command before after ReadFault told cause holds long calm = absurd (calm cause.0)
+stops command before after WriteFault told cause holds long calm =
+    absurd (shorter command before after cause.1.bytes told cause.1.read holds long)
+stops command before after (Refused fault) told cause holds long calm =
+    absurd (shorter command before after cause.bytes told cause.read holds long)
+stops command before after TooLong told cause holds long calm = inl refl
+stops command before after NoMemory told cause holds long calm = inr refl
+
+-- no end has the status of what is done
+not_done : (end : End) → status_of end ≡ 0 → ⊥
+not_done Usage is = absurd cc
+not_done ReadFault is = absurd cc
+not_done WriteFault is = absurd cc
+not_done (Refused fault) is = absurd cc
+not_done TooLong is = absurd cc
+not_done NoMemory is = absurd cc
+
+-- ---- runs
+
+-- a command that ended well
+ends_well : (command : Command) (before after : World) → IsDone command before after
+    → BoundedRead before.left after.left (MOST_BYTES + 1) → IsRunOf command 0 before after
+ends_well command before after done bounded = record {
+  statuses = well_known command;
+  done = λ is. done;
+  failed = λ not. absurd (not refl);
+  bounded = bounded;
+  complete = λ told holds fits input calm quiet. inl refl;
+  refuses = λ told at kind holds fits fault calm.
+      absurd (answered command before after done.bytes told done.given.text at kind done.read holds
+      done.given.answer fault);
+  stops = λ told holds long calm.
+      absurd (shorter command before after done.bytes told done.read holds long);
+}
+
+-- a command that ended otherwise, and was told so
+ends_badly : (command : Command) (before after : World) (end : End) (status : ℕ)
+    → IsCause command before after end → BoundedRead before.left after.left (MOST_BYTES + 1)
+    → IsToldEnd status before.told after.told (LineFailed before after) end
+    → IsRunOf command status before after
+ends_badly command before after end status cause bounded told = record {
+  statuses = rw told.status_is (known command before after end cause);
+  done = λ is. absurd (not_done end (rw told.status_is at is));
+  failed = λ not. record { end = end; cause = cause; told = told };
+  bounded = bounded;
+  complete = λ bytes holds fits input calm quiet.
+      rw told.status_is
+      (completes command before after end bytes cause holds fits input calm quiet);
+  refuses = λ bytes at kind holds fits fault calm.
+      rw told.status_is
+      (refuses command before after end bytes at kind cause holds fits fault calm);
+  stops = λ bytes holds long calm.
+      rw told.status_is (stops command before after end bytes cause holds long calm);
+}
+
+-- a run whose command ended well,
+pub runs_well : (found : Option Command) (command : Command) (before after : World)
+    → found ≡ Some command → IsDone command before after
+    → BoundedRead before.left after.left (MOST_BYTES + 1) → IsRun found 0 before after
+runs_well found command before after is done bounded =
+    subst (λ (f : Option Command). IsRun f 0 before after) (sym is)
+    (ends_well command before after done bounded)
+
+-- and one whose command ended otherwise, and was told so
+pub runs_badly : (found : Option Command) (command : Command) (before after : World) (end : End)
+    (status : ℕ) → found ≡ Some command → IsCause command before after end
+    → BoundedRead before.left after.left (MOST_BYTES + 1)
+    → IsToldEnd status before.told after.told (LineFailed before after) end
+    → IsRun found status before after
+runs_badly found command before after end status is cause bounded told =
+    subst (λ (f : Option Command). IsRun f status before after) (sym is)
+    (ends_badly command before after end status cause bounded told)

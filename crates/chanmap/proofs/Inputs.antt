@@ -10,7 +10,7 @@ use Rattle.capture_file.specs.declared.fault.CaptureFault.{CaptureFault}
 use Rattle.capture_file.specs.declared.fault.CaptureKind.{CaptureKind}
 use Rattle.capture_file.specs.declared.fault.CaptureKind.TheVariants.{Trailing}
 use Rattle.capture_file.specs.Walk.{IfFault}
-use Rattle.chanmap.specs.Top.{IsNoCapture, IsRefusedAt, IsWholeInput}
+use Rattle.chanmap.specs.Captures.{IsNoCapture, IsRefusedAt, IsWholeInput}
 
 -- a capture that is all of the bytes ends at their end
 whole_at : (bytes : List ℕ) (c : CaptureParts) → IsCaptureText c bytes
@@ -45,14 +45,15 @@ whole_input bytes c place end at only exact = record {
   sound = no_fault bytes c place end only exact;
 }
 
--- bytes behind a capture are a fault
+-- bytes after a capture are a fault
 pub trailing : (bytes : List ℕ) (c : CaptureParts) (place : ℕ) → place < length bytes
     → IsCaptureAt bytes c place
     → ((d : CaptureParts) (at : ℕ) → IsCaptureAt bytes d at → (c ≡ d) × (place ≡ at))
     → IsNoCapture bytes record { at = place; kind = Trailing }
 trailing bytes c place short at only = record {
-  refused = inr (record { capture = c; front = at; more = short }, refl);
-  none = λ d text. let same = (only d (length bytes) (whole_at bytes d text)).1 in
+  first = inr (record { capture = c; front = at; more = short }, refl);
+  none = λ other.
+      let same = (only other.0 (length bytes) (whole_at bytes other.0 other.1)).1 in
       omega (arith, same, short);
 }
 
@@ -62,6 +63,6 @@ pub refused : (bytes : List ℕ) (e : Or CaptureFault) → IfFault e (λ f. Faul
     → IfFault e (IsNoCapture bytes)
 refused bytes NoMemory fault only = tt
 refused bytes (Fault f) fault only = record {
-  refused = inl fault;
-  none = λ c text. only c (length bytes) (whole_at bytes c text);
+  first = inl fault;
+  none = λ other. only other.0 (length bytes) (whole_at bytes other.0 other.1);
 }

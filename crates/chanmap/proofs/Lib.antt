@@ -1,3 +1,4 @@
 pub mod Inputs
 pub mod Parts
+pub mod Tables
 pub mod Ends

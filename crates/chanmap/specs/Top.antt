@@ -1,170 +1,148 @@
 -- What a run of the program does. (This project's own.)
-use Rattle.std.specs.Prelude.{◌≡◌, ℕ, ◌<◌, ◌≤◌, ◌⊎◌, List, [], ◌∷◌, ◌++◌, length, codes, decimal}
-use Rattle.std.specs.Prelude.{string_bytes, String, Option, Some, None, bytes_eq, if◌then◌else◌}
-use Rattle.std.specs.declared.alloc.Global.{Global}
+use Rattle.std.specs.Prelude.{◌≡◌, ℕ, ◌+◌, ◌<◌, ◌≤◌, ◌⊎◌, List, [], ◌∷◌, length, Contains}
+use Rattle.std.specs.Prelude.{Option, Some, None}
 use Rattle.std.specs.Io.KnownBytes.{Appends}
-use Rattle.chan_io.specs.Streams.{WholeRead, TakesPrefix, TellsAlike}
-use Rattle.capture_file.specs.Capture.{CaptureParts, IsCaptureAt, IsCaptureText}
-use Rattle.capture_file.specs.Fault.{FaultIs}
+use Rattle.chan_io.specs.Streams.{BoundedRead, LongRead, TakesPrefix, TellsAlike, WholeRead}
 use Rattle.capture_file.specs.declared.fault.CaptureFault.{CaptureFault}
 use Rattle.capture_file.specs.declared.fault.CaptureKind.{CaptureKind}
-use Rattle.capture_file.specs.declared.fault.CaptureKind.TheVariants.{Magic, Cut, Tag, Order}
-use Rattle.capture_file.specs.declared.fault.CaptureKind.TheVariants.{Device, Body, Work, Trailing}
-use Rattle.serial_player.specs.Written.{IsResultOf}
-use Rattle.chanmap.specs.declared.top.TheConstants.{MOST_BYTES}
+use Rattle.chanmap.specs.World.{World, LineFailed, ReadFailed, WriteFailed}
+use Rattle.chanmap.specs.End.{IsToldEnd}
+use Rattle.chanmap.specs.commands.Serial.{IsSerialAnswer, IsSerialFault, IsSerialInput, SerialRest}
+use Rattle.chanmap.specs.declared.input.TheConstants.{MOST_BYTES}
 use Rattle.chanmap.specs.declared.command.Command.{Command}
 use Rattle.chanmap.specs.declared.command.Command.TheVariants.{Serial}
 use Rattle.chanmap.specs.declared.end.End.{End}
 use Rattle.chanmap.specs.declared.end.End.TheVariants.{Usage, ReadFault, WriteFault, Refused}
 use Rattle.chanmap.specs.declared.end.End.TheVariants.{TooLong, NoMemory}
 
--- ---- commands
+-- ---- the commands, a line each
 
--- the command whose name these bytes are
-abbrev pub named : List ℕ → Option Command
-named word = if bytes_eq word (codes "serial") then Some Serial else None
+-- the statuses that a command ends with
+abbrev pub statuses_of : Command → List ℕ
+statuses_of Serial = 0 ∷ 3 ∷ 4 ∷ 5 ∷ 7 ∷ 12 ∷ []
 
--- the command of the words, where they are those of one: its name, and no further word
-abbrev pub command_of : List (String Global) → Option Command
-command_of [] = None
-command_of (word ∷ []) = named (string_bytes word)
-command_of (word ∷ other ∷ words) = None
+-- how a command came by these bytes: it read its source to the end
+abbrev pub HasRead : Command → World → World → List ℕ → Type 0
+HasRead Serial before after bytes = WholeRead before.left after.left MOST_BYTES bytes
 
--- ---- what the bytes of a command's input are
+-- these bytes, of which the outside tells, are what a command will read
+abbrev pub Holds : Command → World → List ℕ → Type 0
+Holds Serial before bytes = before.left ≡ Some bytes
 
--- bytes behind a capture, which begin at this place
-pub record IsTrailing (bytes : List ℕ) (at : ℕ) : Type 0 where
-  pub capture : CaptureParts
-  pub front : IsCaptureAt bytes capture at
-  pub more : at < length bytes
+-- the bytes are an input of a command
+abbrev pub IsInput : Command → List ℕ → Type 0
+IsInput Serial bytes = IsSerialInput bytes
 
--- The first fault of the input, and its place: that of a capture; or, where a capture stands in
--- front, that bytes stand behind it.
-abbrev pub IsRefusedAt : List ℕ → ℕ → CaptureKind → Type 0
-IsRefusedAt bytes at kind = FaultIs bytes at kind ⊎ (IsTrailing bytes at × (kind ≡ Trailing))
+-- the first fault of bytes that are none: its place and its kind
+abbrev pub IsFaultAt : Command → List ℕ → ℕ → CaptureKind → Type 0
+IsFaultAt Serial bytes at kind = IsSerialFault bytes at kind
 
--- all of the bytes are the text of this capture and of no other, and they have no fault
-pub record IsWholeInput (bytes : List ℕ) (capture : CaptureParts) : Type 0 where
-  pub read : IsCaptureText capture bytes
-  pub only : (other : CaptureParts) → IsCaptureText other bytes → other ≡ capture
-  pub sound : (at : ℕ) (kind : CaptureKind) → IsRefusedAt bytes at kind → ⊥
-
--- The bytes are the text of one capture and have no fault, and this text is its result: that of the
--- capture's serial history, which is legal.
-pub record IsSerialAnswer (bytes text : List ℕ) : Type 0 where
-  pub capture : CaptureParts
-  pub input : IsWholeInput bytes capture
-  pub result : IsResultOf capture text
-
--- what a command makes of its input
+-- the text that a command makes of its input for the sink of the result
 abbrev pub IsAnswer : Command → List ℕ → List ℕ → Type 0
 IsAnswer Serial bytes text = IsSerialAnswer bytes text
 
--- ---- how a run ends
+-- what else a command does where it made this text of these bytes
+abbrev pub Rest : Command → List ℕ → List ℕ → World → World → Type 0
+Rest Serial bytes text before after = SerialRest before after
+
+-- ---- what a command does with its bytes
 
 -- the sink took all that the command makes of these bytes
-pub record IsGiven (command : Command) (bytes : List ℕ) (taken_old taken_new : Option (List ℕ))
-    : Type 0 where
+pub record IsGiven (command : Command) (bytes : List ℕ) (old new : Option (List ℕ)) : Type 0 where
   pub text : List ℕ
   pub answer : IsAnswer command bytes text
-  pub alike : TellsAlike taken_old taken_new
-  pub took : Appends taken_old taken_new text
+  pub alike : TellsAlike old new
+  pub took : Appends old new text
 
 -- the sink took a front of what the command makes of these bytes, maybe none or all of it
-pub record IsGivenInPart (command : Command) (bytes : List ℕ)
-    (taken_old taken_new : Option (List ℕ)) : Type 0 where
+pub record IsGivenInPart (command : Command) (bytes : List ℕ) (old new : Option (List ℕ))
+    : Type 0 where
   pub text : List ℕ
   pub answer : IsAnswer command bytes text
-  pub took : TakesPrefix taken_old taken_new text
+  pub took : TakesPrefix old new text
 
--- the source was read to its end, and the sink took all that the command makes of it
-pub record IsDone (command : Command) (left_old left_new taken_old taken_new : Option (List ℕ))
+-- the bytes have this first fault, and are no input of the command
+pub record IsFaulty (command : Command) (bytes : List ℕ) (fault : CaptureFault) : Type 0 where
+  pub first : IsFaultAt command bytes fault.at fault.kind
+  pub none : IsInput command bytes → ⊥
+
+-- why the sink was not given all that the command makes of these bytes
+abbrev pub IsUnanswered : Command → List ℕ → Option (List ℕ) → Option (List ℕ) → Type 0 → End
+    → Type 0
+IsUnanswered command bytes old new Failed Usage = ⊥
+IsUnanswered command bytes old new Failed ReadFault = ⊥
+IsUnanswered command bytes old new Failed WriteFault =
+    Failed × IsGivenInPart command bytes old new
+IsUnanswered command bytes old new Failed (Refused fault) = IsFaulty command bytes fault
+IsUnanswered command bytes old new Failed TooLong = ⊥
+IsUnanswered command bytes old new Failed NoMemory = Unit {0}
+
+-- ---- how the run of a command ends
+
+-- It ended well: it came by its bytes, the sink took all that it makes of them, and it did what
+-- else it does.
+pub record IsDone (command : Command) (before after : World) : Type 0 where
+  pub bytes : List ℕ
+  pub read : HasRead command before after bytes
+  pub given : IsGiven command bytes before.taken after.taken
+  pub rest : Rest command bytes given.text before after
+
+-- it came by its bytes, and the sink took a front of what it makes of them
+pub record IsCutShort (command : Command) (before after : World) : Type 0 where
+  pub bytes : List ℕ
+  pub read : HasRead command before after bytes
+  pub given : IsGivenInPart command bytes before.taken after.taken
+
+-- it came by its bytes, and they have this first fault
+pub record IsRefused (command : Command) (before after : World) (fault : CaptureFault)
     : Type 0 where
   pub bytes : List ℕ
-  pub read : WholeRead left_old left_new MOST_BYTES bytes
-  pub given : IsGiven command bytes taken_old taken_new
+  pub read : HasRead command before after bytes
+  pub faulty : IsFaulty command bytes fault
 
--- the source was read to its end, and the sink took a front of what the command makes of it
-pub record IsCutShort (command : Command) (left_old left_new taken_old taken_new : Option (List ℕ))
-    : Type 0 where
-  pub bytes : List ℕ
-  pub read : WholeRead left_old left_new MOST_BYTES bytes
-  pub given : IsGivenInPart command bytes taken_old taken_new
+-- The cause of an end otherwise than well. A fault of reading comes only where the source's count
+-- rose, and not more than the most was read; one of writing only where that of the sink rose, which
+-- took a front of the answer; a refusal tells the first fault; an input is too long where one byte
+-- more than the most was read; and where memory ran out not more than the most was read.
+abbrev pub IsCause : Command → World → World → End → Type 0
+IsCause command before after Usage = ⊥
+IsCause command before after ReadFault =
+    ReadFailed before after × BoundedRead before.left after.left MOST_BYTES
+IsCause command before after WriteFault =
+    WriteFailed before after × IsCutShort command before after
+IsCause command before after (Refused fault) = IsRefused command before after fault
+IsCause command before after TooLong = LongRead before.left after.left MOST_BYTES
+IsCause command before after NoMemory = BoundedRead before.left after.left MOST_BYTES
 
--- the bytes have this first fault, and are the text of no capture
-pub record IsNoCapture (bytes : List ℕ) (fault : CaptureFault) : Type 0 where
-  pub refused : IsRefusedAt bytes fault.at fault.kind
-  pub none : (capture : CaptureParts) → IsCaptureText capture bytes → ⊥
-
--- the source was read to its end, and its bytes have this first fault
-pub record IsFaulty (left_old left_new : Option (List ℕ)) (fault : CaptureFault) : Type 0 where
-  pub bytes : List ℕ
-  pub read : WholeRead left_old left_new MOST_BYTES bytes
-  pub faulty : IsNoCapture bytes fault
-
--- the source tells its bytes, and they are the text of a capture, not too long
-abbrev pub HoldsCapture : Option (List ℕ) → Type 0
-HoldsCapture None = ⊥
-HoldsCapture (Some bytes) =
-    (length bytes ≤ MOST_BYTES) × (capture : CaptureParts) × IsCaptureText capture bytes
-
--- the source tells its bytes, not too long, and they have this first fault
-abbrev pub HoldsFault : Option (List ℕ) → CaptureFault → Type 0
-HoldsFault None fault = ⊥
-HoldsFault (Some bytes) fault = (length bytes ≤ MOST_BYTES) × IsRefusedAt bytes fault.at fault.kind
-
--- the source tells its bytes, and they are too long
-abbrev pub HoldsTooMuch : Option (List ℕ) → Type 0
-HoldsTooMuch None = ⊥
-HoldsTooMuch (Some bytes) = MOST_BYTES < length bytes
-
--- ---- statuses and lines
-
--- the exit status of an end
-abbrev pub status_of : End → ℕ
-status_of Usage = 2
-status_of ReadFault = 3
-status_of WriteFault = 4
-status_of (Refused fault) = 5
-status_of TooLong = 7
-status_of NoMemory = 12
-
--- the word of a kind of fault, at the end of its line
-abbrev pub kind_text : CaptureKind → List ℕ
-kind_text Magic = codes "magic\n"
-kind_text Cut = codes "cut\n"
-kind_text Tag = codes "tag\n"
-kind_text Order = codes "order\n"
-kind_text Device = codes "device\n"
-kind_text Body = codes "body\n"
-kind_text Work = codes "work\n"
-kind_text Trailing = codes "trailing\n"
-
--- the line that tells an end: a refusal by its place and its kind
-unfoldable pub line_of : End → List ℕ
-line_of Usage = codes "usage: chanmap serial\n"
-line_of ReadFault = codes "read fault\n"
-line_of WriteFault = codes "write fault\n"
-line_of (Refused fault) =
-    codes "refused at " ++ (decimal fault.at ++ (codes ": " ++ kind_text fault.kind))
-line_of TooLong = codes "too long\n"
-line_of NoMemory = codes "no memory\n"
-
--- A run ended so: this is its status, and `err` took its line, all of it unless its count rose.
-pub record IsToldEnd (status : ℕ) (old new : Option (List ℕ)) (Failed : Type 0)
-    (end : End) : Type 0 where
-  pub status_is : status ≡ status_of end
-  pub line : TakesPrefix old new (line_of end)
-  pub whole : (Failed → ⊥) → Appends old new (line_of end)
-
--- it ended otherwise than well, and was told so
-pub record IsTold (status : ℕ) (old new : Option (List ℕ)) (Failed : Type 0) : Type 0 where
+-- It ended otherwise than well: so, for this cause, with the status and the line of that.
+pub record HasFailed (command : Command) (status : ℕ) (before after : World) : Type 0 where
   pub end : End
-  pub told : IsToldEnd status old new Failed end
+  pub cause : IsCause command before after end
+  pub told : IsToldEnd status before.told after.told (LineFailed before after) end
 
--- it was refused for the first fault of the input, and was told so
-pub record IsToldFault (left_old left_new old new : Option (List ℕ))
-    (Failed : Type 0) : Type 0 where
-  pub fault : CaptureFault
-  pub faulty : IsFaulty left_old left_new fault
-  pub told : IsToldEnd 5 old new Failed (Refused fault)
+-- ---- runs
+
+-- A run of a command. It ends with one of the command's statuses: with 0 it is done, and with each
+-- other it has the cause of an end that has this status, and was told so. At most one byte more
+-- than the most is read. Where the outside tells what the command will read: an input gets its answer,
+-- unless the source or the sink fails or memory runs out; bytes with a fault are refused, and too
+-- many are too long, unless the source fails or memory runs out.
+pub record IsRunOf (command : Command) (status : ℕ) (before after : World) : Type 0 where
+  pub statuses : Contains (statuses_of command) status
+  pub done : status ≡ 0 → IsDone command before after
+  pub failed : (status ≡ 0 → ⊥) → HasFailed command status before after
+  pub bounded : BoundedRead before.left after.left (MOST_BYTES + 1)
+  pub complete : (bytes : List ℕ) → Holds command before bytes → length bytes ≤ MOST_BYTES
+      → IsInput command bytes → (ReadFailed before after → ⊥) → (WriteFailed before after → ⊥)
+      → (status ≡ 0) ⊎ (status ≡ 12)
+  pub refuses : (bytes : List ℕ) (at : ℕ) (kind : CaptureKind) → Holds command before bytes
+      → length bytes ≤ MOST_BYTES → IsFaultAt command bytes at kind
+      → (ReadFailed before after → ⊥) → (status ≡ 5) ⊎ (status ≡ 12)
+  pub stops : (bytes : List ℕ) → Holds command before bytes → MOST_BYTES < length bytes
+      → (ReadFailed before after → ⊥) → (status ≡ 7) ⊎ (status ≡ 12)
+
+-- A run by the command of its words. Where they are those of no command, this is told.
+abbrev pub IsRun : Option Command → ℕ → World → World → Type 0
+IsRun None status before after =
+    IsToldEnd status before.told after.told (LineFailed before after) Usage
+IsRun (Some command) status before after = IsRunOf command status before after

@@ -5,7 +5,7 @@ ghost use Rattle.std.specs.List.{flat_map};
 ghost use Rattle.std.specs.Io.KnownBytes.{Appends};
 ghost use Rattle.chan_io.specs.Causes.{HasCause, Rose};
 ghost use Rattle.chan_io.specs.Streams.{TakesPrefix};
-ghost use Rattle.chanmap.specs.Top.{IsToldEnd, kind_text, line_of, status_of};
+ghost use Rattle.chanmap.specs.End.{IsToldEnd, kind_text, line_of, status_of};
 ghost use Rattle.chanmap.specs.declared.end.End.TheVariants.{Refused};
 
 use capture_file::{CaptureFault, CaptureKind};
@@ -61,7 +61,7 @@ fn kind_text(kind: CaptureKind) -> &'static str
     }
 }
 
-/// Gives a sink these texts, one behind the other.
+/// Gives a sink these texts, one after the other.
 #[tactic(auto, using(chan_io::proofs::Told::steps, crate::proofs::Parts::both))]
 fn write_parts<X: Sink>(sink: &mut X, parts: &[&[u8]]) -> Result<(), Failed>
     ensures cause { HasCause (X.faults sink.old) (X.faults sink.new) result }
@@ -80,7 +80,7 @@ fn write_parts<X: Sink>(sink: &mut X, parts: &[&[u8]]) -> Result<(), Failed>
 }
 
 /// Gives a sink the line of a refusal: where the first fault is, and of which kind.
-#[tactic(auto, unfolding(crate::specs::Top::line_of))]
+#[tactic(auto, unfolding(crate::specs::End::line_of))]
 fn write_refusal<X: Sink>(sink: &mut X, fault: CaptureFault) -> Result<(), Failed>
     ensures cause { HasCause (X.faults sink.old) (X.faults sink.new) result }
     ensures ok { OnOk result (Appends (X.taken sink.old) (X.taken sink.new)
@@ -94,7 +94,7 @@ fn write_refusal<X: Sink>(sink: &mut X, fault: CaptureFault) -> Result<(), Faile
 }
 
 /// Gives a sink the line of an end.
-#[tactic(auto, unfolding(crate::specs::Top::line_of))]
+#[tactic(auto, unfolding(crate::specs::End::line_of))]
 fn write_line<X: Sink>(sink: &mut X, end: End) -> Result<(), Failed>
     ensures cause { HasCause (X.faults sink.old) (X.faults sink.new) result }
     ensures ok { OnOk result (Appends (X.taken sink.old) (X.taken sink.new) (line_of end)) }

@@ -2,10 +2,13 @@
 #![tactic(auto)]
 
 mod command;
+mod commands;
 mod end;
+mod input;
 #[cfg(test)]
 mod tests;
 mod top;
+mod words;
 
 use chan_io::{StdSink, StdSource};
 use std::env;
@@ -13,7 +16,7 @@ use std::io::ErrorKind;
 use std::process::ExitCode;
 use top::{chanmap, without_words};
 
-/// Does what the words behind the program's name say. Where one of them is no text, there are none.
+/// Does what the words after the program's name say. Where one of them is no text, there are none.
 fn main(rt: HostRuntime) -> ExitCode {
     let alloc = rt.alloc();
     let mut src = StdSource::new(rt.stdin());

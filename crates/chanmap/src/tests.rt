@@ -6,7 +6,7 @@ mod requests;
 mod results;
 
 use crate::top::chanmap;
-use chan_io::{MemSink, MemSource, StdSink};
+use chan_io::{MemSink, MemSource, Sink, StdSink};
 use std::alloc::Global;
 use std::process::Abort;
 use std::test::Fail;
@@ -154,16 +154,28 @@ fn strings(alloc: Global, words: &[&str]) -> Result<Vec<String>, Fail> {
     Ok(made)
 }
 
-fn run(alloc: Global, words: &[&str], input: Vec<u8>, outside: Outside) -> Result<Ran, Fail> {
+/// The status and the lines of a run over these words, this input and this sink of the result.
+fn run_into<K: Sink>(
+    alloc: Global,
+    words: &[&str],
+    input: Vec<u8>,
+    outside: Outside,
+    out: &mut K,
+) -> Result<(u8, Vec<u8>), Fail> {
     let words = strings(alloc, words)?;
     let mut src = MemSource::new(input, outside.piece.max(1), fails(alloc, outside.read)?);
-    let mut out = MemSink::new(alloc, fails(alloc, outside.write)?);
     let mut err = MemSink::new(alloc, fails(alloc, outside.line)?);
-    let status = chanmap(alloc, &words, &mut src, &mut out, &mut err);
+    let status = chanmap(alloc, &words, &mut src, out, &mut err);
+    Ok((status, copied(alloc, err.taken())?))
+}
+
+fn run(alloc: Global, words: &[&str], input: Vec<u8>, outside: Outside) -> Result<Ran, Fail> {
+    let mut out = MemSink::new(alloc, fails(alloc, outside.write)?);
+    let (status, err) = run_into(alloc, words, input, outside, &mut out)?;
     Ok(Ran {
         status,
         out: copied(alloc, out.taken())?,
-        err: copied(alloc, err.taken())?,
+        err,
     })
 }
 
@@ -395,7 +407,7 @@ fn packets(rt: HostRuntime) -> Result<(), Fail> {
     Ok(())
 }
 
-/// The first tick is 2147483647, and the timestamps wrap behind it. `x` carries both channels of
+/// The first tick is 2147483647, and the timestamps wrap after it. `x` carries both channels of
 /// `a`.
 const WRAPS: &str = "43484d434150310a 44 00000026
     0000bb80 0002 000000007fffffff 01 01 01
@@ -480,16 +492,14 @@ fn failing_source_and_sink(rt: HostRuntime) -> Result<(), Fail> {
 #[test]
 fn full_sink(rt: HostRuntime) -> Result<(), Fail> {
     let alloc = rt.alloc();
-    let words = strings(alloc, &["serial"])?;
-    let mut src = MemSource::new(capture(alloc, MID_TICK)?, 64, Vec::new(alloc));
     let mut room = [0u8; 100];
     let mut out = StdSink::new(room.as_mut_slice());
-    let mut err = MemSink::new(alloc, Vec::new(alloc));
-    let status = chanmap(alloc, &words, &mut src, &mut out, &mut err);
+    let input = capture(alloc, MID_TICK)?;
+    let (status, err) = run_into(alloc, &["serial"], input, NO_FAULT, &mut out)?;
     assert_eq!(rt; status, 4);
     let result = hex(alloc, MID_TICK_RESULT)?;
     assert_eq!(rt; Some(room.as_slice()), result.get(..100));
-    assert_eq!(rt; err.taken(), b"write fault\n".as_slice());
+    assert_eq!(rt; err.as_slice(), b"write fault\n".as_slice());
     Ok(())
 }
 

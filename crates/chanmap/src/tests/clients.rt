@@ -29,7 +29,7 @@ const BAD: &str = "HTTP/1.1 400 Bad Request\r\nContent-Type: application/json\r\
 const EMPTY: &str = "HTTP/1.1 200 OK\r\nContent-Type: application/json\r\nContent-Length: 2\r\n\
     Access-Control-Allow-Origin: *\r\nConnection: keep-alive\r\n\r\n{}";
 
-/// Accepted behind 2 claims, so it counts from tick 1, which starts after 41666.7 nanoseconds.
+/// Accepted after 2 claims, so it counts from tick 1, which starts after 41666.7 nanoseconds.
 const ACTIVATED: &str = "HTTP/1.1 200 OK\r\nContent-Type: application/json\r\n\
     Content-Length: 153\r\nAccess-Control-Allow-Origin: *\r\nConnection: keep-alive\r\n\r\n\
     {\"1\":{\"action\":{\"x\":{\"0\":{\"channel_index\":1,\"input\":\"a\"}}},\
@@ -111,7 +111,7 @@ const STREAMS: [(&[Part], &[Part]); 5] = [
             Part::Records(SECOND_TICK),
         ],
     ),
-    // behind a request that closes nothing is read
+    // after a request that closes nothing is read
     (
         &[
             Part::Piece(0, "GET / HTTP/1.0\r\n\r\nGET / HTTP/1.1\r\n\r\n"),
@@ -124,7 +124,7 @@ const STREAMS: [(&[Part], &[Part]); 5] = [
             Part::Records("45 00000000"),
         ],
     ),
-    // behind an accepted call the client goes on one call further, still at its claims
+    // after an accepted call the client goes on one call further, still at its claims
     (
         &[
             Part::Records("41 00000008 07 00 01 00 01 00ff00 54 00000004 00000004"),
@@ -174,7 +174,7 @@ fn push_part(made: &mut Vec<u8>, part: Part) -> Result<(), Fail> {
     }
 }
 
-/// The bytes of some parts behind those in hexadecimal.
+/// The bytes of some parts after those in hexadecimal.
 fn parts_behind(alloc: Global, digits: &str, parts: &[Part]) -> Result<Vec<u8>, Fail> {
     let mut made = hex(alloc, digits)?;
     for part in parts {

@@ -30,11 +30,11 @@ const DEVICE_CHANGES: [(usize, usize, &str, &str); 34] = [
     (65, 66, "44", "refused at 65: order"),
     (8, 9, "51", "refused at 8: order"),
     (65, 66, "4a", "refused at 65: order"),
-    // a plain device as JSON, a piece of a client that isn't there, and one of no client
+    // a plain device as JSON, a piece of a client that is not there, and one of no client
     (8, 9, "4a", "refused at 8: device"),
     (65, 71, "51 00000004 10", "refused at 65: body"),
     (65, 74, "51 00000000", "refused at 65: body"),
-    // a device record that ends within a base row, and one with a byte behind it
+    // a device record that ends within a base row, and one with a byte after it
     (
         9,
         65,
@@ -86,7 +86,7 @@ const DEVICE_CHANGES: [(usize, usize, &str, &str); 34] = [
     (36, 37, "02", "refused at 8: device"),
     // a routable list with no member
     (46, 47, "00", "refused at 8: device"),
-    // a base row with another unrouted cell, and with a channel and an input that aren't there
+    // a base row with another unrouted cell, and with a channel and an input that are not there
     (47, 49, "ff01", "refused at 8: device"),
     (47, 49, "0002", "refused at 8: device"),
     (47, 49, "0100", "refused at 8: device"),
@@ -94,7 +94,7 @@ const DEVICE_CHANGES: [(usize, usize, &str, &str); 34] = [
     (70, 74, "00000003", "refused at 74: work"),
     (70, 74, "00000202", "refused at 74: work"),
     (66, 71, "00000003", "refused at 65: body"),
-    // an end with a body, no end, and a byte behind the end
+    // an end with a body, no end, and a byte after the end
     (75, 79, "00000001 00", "refused at 74: body"),
     (74, 79, "", "refused at 74: cut"),
     (79, 79, "00", "refused at 79: trailing"),
@@ -103,15 +103,15 @@ const DEVICE_CHANGES: [(usize, usize, &str, &str); 34] = [
 /// Changes of the capture with an activation. Its packet stands at 65, claims at 91 and 118, and
 /// the activation at 100.
 const RECORD_CHANGES: [(usize, usize, &str, &str); 12] = [
-    // a packet of an input that isn't there
+    // a packet of an input that is not there
     (70, 71, "01", "refused at 65: body"),
     // no such client, no such op, and no output
     (105, 106, "10", "refused at 100: body"),
     (106, 107, "01", "refused at 100: body"),
-    // outputs that don't ascend, and one that isn't there
+    // outputs that do not ascend, and one that is not there
     (113, 114, "00", "refused at 100: body"),
     (108, 114, "01 01 00 0000 00", "refused at 100: body"),
-    // channels that don't ascend, and one that isn't there
+    // channels that do not ascend, and one that is not there
     (
         101,
         118,
@@ -119,7 +119,7 @@ const RECORD_CHANGES: [(usize, usize, &str, &str); 12] = [
         "refused at 100: body",
     ),
     (116, 118, "ff01", "refused at 100: body"),
-    // a byte behind the action
+    // a byte after the action
     (
         101,
         118,
@@ -128,7 +128,7 @@ const RECORD_CHANGES: [(usize, usize, &str, &str); 12] = [
     ),
     // claims of part of a tick
     (123, 127, "00000002", "refused at 127: work"),
-    // an op that is none, a time of too many nanoseconds, a byte behind a reading
+    // an op that is none, a time of too many nanoseconds, a byte after a reading
     (101, 118, "00000002 00 06", "refused at 100: body"),
     (
         101,
@@ -167,7 +167,7 @@ fn id_byte(number: u8) -> u8 {
 /// Inputs, or outputs with unrouted rows: how many, and their channels.
 type Ports = (u8, u8);
 
-/// The body of a plain device record in L16, with so many frames a tick.
+/// The body of a plain device record in L16, with a given number of frames a tick.
 fn device_body(alloc: Global, frames: u8, inputs: Ports, outputs: Ports) -> Result<Vec<u8>, Fail> {
     let mut made = hex(alloc, "0000bb80 00")?;
     made.push(frames)?;
@@ -222,7 +222,7 @@ fn limits_of_a_device(rt: HostRuntime) -> Result<(), Fail> {
     Ok(())
 }
 
-/// A capture with so many activations of both outputs.
+/// A capture with a given number of activations of both outputs.
 fn activations(alloc: Global, count: usize) -> Result<Vec<u8>, Fail> {
     let mut made = hex(alloc, DEVICE)?;
     for _ in 0..count {

@@ -4,7 +4,7 @@ use super::{
     MID_TICK, MID_TICK_RESULT, NO_FAULT, Outside, SILENCE_RESULT, TWO_TICKS, capture, expect, hex,
     run,
 };
-use crate::top::read_all;
+use crate::input::read_all;
 use capture_file::write_result;
 use serial_player::serial;
 use std::alloc::Global;
@@ -19,7 +19,7 @@ const LONG: &str = "43484d434150310a 44 00000034
     54 00000004 00000078
     45 00000000";
 
-/// Adds the record of a silent claim of an output: its samples have so many bytes.
+/// Adds the record of a silent claim of an output: its samples have a given number of bytes.
 fn push_silence(made: &mut Vec<u8>, tick: u8, output: u8, len: u32) -> Result<(), Fail> {
     let claim = u64::from(tick)
         .wrapping_mul(2)

@@ -1,48 +1,27 @@
-use Rattle.std.proofs.Common.{◌∷◌, [], refl, lit<}
-use Rattle.std.specs.Prelude.{Contains}
-use Rattle.chanmap.specs.declared.end.End.{End}
-use Rattle.chanmap.specs.declared.end.End.TheVariants.{Usage, ReadFault, WriteFault, Refused}
-use Rattle.chanmap.specs.declared.end.End.TheVariants.{TooLong, NoMemory}
-use Rattle.chanmap.specs.Top.{status_of}
-use Rattle.chanmap.proofs.Ends.{completes, done_answered, done_shorter, refuses, stops}
+use Rattle.std.proofs.Common.{sym, ◌∙◌}
+use Rattle.chanmap.specs.World.{World, world_of}
+use Rattle.chanmap.proofs.Ends.{runs_badly, runs_well}
 use Rattle.chanmap.proofs.top.chanmap.Goals as goal
 
-status_known : (end : End) → Contains (0 ∷ 2 ∷ 3 ∷ 4 ∷ 5 ∷ 7 ∷ 12 ∷ []) (status_of end)
-status_known Usage = (1, lit< tt, refl)
-status_known ReadFault = (2, lit< tt, refl)
-status_known WriteFault = (3, lit< tt, refl)
-status_known (Refused fault) = (4, lit< tt, refl)
-status_known TooLong = (5, lit< tt, refl)
-status_known NoMemory = (6, lit< tt, refl)
+pub returns-in-Ok-clause-run : goal.returns-in-Ok-clause-run
+returns-in-Ok-clause-run g c =
+    runs_well _ c.in-Some.command _ _ (sym c.command_of.ensures ∙ c.in-Some.is)
+    (c.in-Ok.ensures.done (g.X.Sink.taken c.args.err.now) (g.X.Sink.faults c.args.err.now))
+    c.in-Ok.ensures.bounded
 
-pub returns-in-Ok-clause-refuses : goal.returns-in-Ok-clause-refuses
-returns-in-Ok-clause-refuses g c command fault words holds calm =
-    absurd (done_answered command _ _ _ _ fault holds (c.in-Ok.ensures.done command words))
-
-pub returns-in-Ok-clause-stops : goal.returns-in-Ok-clause-stops
-returns-in-Ok-clause-stops g c command words holds calm =
-    absurd (done_shorter command _ _ _ _ holds (c.in-Ok.ensures.done command words))
-
-pub returns-in-Err-clause-statuses : goal.returns-in-Err-clause-statuses
-returns-in-Err-clause-statuses g c = rw c.tell.ensures.status_is (status_known c.in-Err.end)
-
-pub returns-in-Err-clause-complete : goal.returns-in-Err-clause-complete
-returns-in-Err-clause-complete g c command words holds calm quiet =
-    let ends = c.in-Err.ensures in
-    rw c.tell.ensures.status_is
-    (completes _ c.in-Err.end _ command _ _ _ _ refl ends.usage.0 ends.read_fault ends.write_fault
-    ends.refused ends.too_long words holds calm quiet)
-
-pub returns-in-Err-clause-refuses : goal.returns-in-Err-clause-refuses
-returns-in-Err-clause-refuses g c command fault words holds calm =
-    let ends = c.in-Err.ensures in
-    rw c.tell.ensures.status_is
-    (refuses _ c.in-Err.end _ command fault _ _ _ _ _ refl ends.usage.0 ends.read_fault
-    ends.cut_short ends.too_long words holds calm)
-
-pub returns-in-Err-clause-stops : goal.returns-in-Err-clause-stops
-returns-in-Err-clause-stops g c command words holds calm =
-    let ends = c.in-Err.ensures in
-    rw c.tell.ensures.status_is
-    (stops _ c.in-Err.end _ command _ _ _ _ _ refl ends.usage.0 ends.read_fault ends.cut_short
-    ends.refused words holds calm)
+pub returns-in-Err-clause-run : goal.returns-in-Err-clause-run
+returns-in-Err-clause-run g c =
+    let told = g.X.Sink.taken c.args.err.now in
+    let told_then = g.X.Sink.taken c.tell-in-Err.new.err in
+    let faults = g.X.Sink.faults c.args.err.now in
+    let faults_then = g.X.Sink.faults c.tell-in-Err.new.err in
+    let before : World =
+    world_of (g.S.Source.left c.args.src.now) (g.S.Source.faults c.args.src.now)
+    (g.K.Sink.taken c.args.out.now) (g.K.Sink.faults c.args.out.now) told faults in
+    let after : World =
+    world_of (g.S.Source.left c.run.new.src) (g.S.Source.faults c.run.new.src)
+    (g.K.Sink.taken c.run.new.out) (g.K.Sink.faults c.run.new.out) told_then faults_then in
+    runs_badly _ c.in-Some.command before after c.in-Err.end c.tell-in-Err.result
+    (sym c.command_of.ensures ∙ c.in-Some.is)
+    (c.in-Err.ensures.ends told told_then faults faults_then) c.in-Err.ensures.bounded
+    c.tell-in-Err.ensures

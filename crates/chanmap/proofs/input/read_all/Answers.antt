@@ -1,7 +1,7 @@
 use Rattle.std.proofs.Common.{arith}
 use Rattle.std.proofs.lemmas.Result.{err_from_is_err_and}
 use Rattle.chanmap.proofs.Inputs.{refused, trailing, whole_input}
-use Rattle.chanmap.proofs.top.read_all.Goals as goal
+use Rattle.chanmap.proofs.input.read_all.Goals as goal
 
 pub returns-in_err-capture-clause-fault : goal.returns-in_err-capture-clause-fault
 returns-in_err-capture-clause-fault c =

@@ -1,0 +1,2 @@
+-- What each command reads and makes, a file a command.
+pub mod Serial

@@ -1,0 +1,3 @@
+//! What each command does, a file a command.
+
+pub(crate) mod serial;
