@@ -270,7 +270,7 @@ closed_or : (n : Intake) (tick : ℕ) (ps : List Piece) → tick < n.ticks → i
 closed_or n tick ps lt is (inl below) = below
 closed_or n tick ps lt is (inr le) = let no = open_from n tick ps le lt in absurd cc
 
--- The closed ticks of a session are its first ones, so many.
+-- The closed ticks of a session are its first ones, as many as are closed.
 pub closed_are : (n : Intake) (tick : ℕ) (ps : List Piece) → tick < n.ticks
     → (is_closed n ps tick ≡ true) ↔ (tick < closed_by n ps)
 closed_are n tick ps lt = (
@@ -334,7 +334,7 @@ place_is : (r timestamp : ℕ) → (r + (timestamp + 2 ^ 31 + (2 ^ 32 - r % 2 ^ 
     ≡ (timestamp + 2 ^ 31) % 2 ^ 32
 place_is r timestamp = omega arith
 
--- It is below 2^32, and that many frames behind the place 2^31 frames before the session's first
+-- It is below 2^32, and that many frames after the place 2^31 frames before the session's first
 -- one the packet's timestamp
 -- stands: the only such place. (RFC 3550, section 5.1)
 pub first_place_is : (n : Intake) (timestamp : ℕ)

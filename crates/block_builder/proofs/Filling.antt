@@ -188,7 +188,7 @@ pub subst3 : {A B C : Type 0} (P : A → B → C → Type 0) {a d : A} {b e : B}
 subst3 {A} {B} {C} P {a} {d} {b} {e} {c} {f} x y z h =
     subst (λ (k : C). P d e k) z (subst (λ (k : B). P d k c) y (subst (λ (k : A). P k b c) x h))
 
--- the samples of one frame, behind so many
+-- the samples of one frame, after a given number of others
 pub frame_is : (n : Intake) (payload : List ℕ) (q bytes : ℕ) → bytes ≡ frame_bytes n
     → samples_of n (take (length payload - q * bytes) (drop (q * bytes) payload))
     ≡ samples_of n (drop (q * frame_bytes n) payload)

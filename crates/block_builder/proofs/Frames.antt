@@ -125,7 +125,7 @@ pub none_of : (o : Option (List ℤ)) → is_some o ≡ false → o ≡ None
 none_of None h = refl
 none_of (Some x) h = absurd cc
 
--- a frame that the packet doesn't cover stays
+-- a frame that the packet does not cover stays
 pub not_covered : (n : Intake) (p : Piece) (tick : ℕ) (c : Held) (f : ℕ)
     → covers (tick_place n tick + f) p ≡ false → added n p tick c f ≡ c f
 not_covered n p tick c f h = ap
@@ -194,7 +194,7 @@ begins n p tick upto c s h un shown =
     IsShown-same n c (added_below upto n p tick c) s h
     (λ f lt. begins_at n p tick upto c f un (cases_lt f upto)) shown
 
--- behind its last frame nothing is left
+-- after its last frame nothing is left
 pub ends : (n : Intake) (p : Piece) (tick upto : ℕ) (c : Held) (s : List ℤ) (h : List Bool)
     → ((f : ℕ) → upto ≤ f → f < n.frames → covers (tick_place n tick + f) p ≡ false)
     → IsShown n (added_below upto n p tick c) s h → IsShown n (added n p tick c) s h

@@ -18,7 +18,7 @@ far_before half first frames tick f lt before =
     let b : (tick + 1) * frames ≤ (first - half) / frames * frames = mul-le-mul a (omega arith) in
     omega (arith, b, div-mul-le_self (first - half) frames, add-mul tick 1 frames, lt)
 
--- a tick behind that of the last frame lies behind it
+-- a tick after that of the last frame lies after it
 pub far_behind : (half end frames tick f : ℕ) → 0 < frames → (end - 1 - half) / frames < tick
     → end ≤ half + tick * frames + f
 far_behind half end frames tick f some behind =

@@ -44,7 +44,7 @@ last_frame w b ch m i =
     (ap (λ (k : ℕ). drop k b) (place_of m ch i size)
     ∙ sym (drop-drop (i * size) (m * (ch * size)) b))
 
--- samples are those of one frame behind the other
+-- samples are those of one frame after the other
 pub samples_parts : (w : Width) (b : List ℕ) (ch frames : ℕ)
     → samples_in w (frames * ch) b
     ≡ flat_map (λ f. samples_in w ch (drop (f * (ch * bytes_per_sample w)) b))
@@ -160,7 +160,7 @@ whole_count n p tick part c s h whole none shown =
 
 -- ---- where a packet covers a tick
 
--- so many frames behind so many others are there
+-- a given number of frames after others are there
 pub frames_there : (behind frames len fb : ℕ) → behind + frames ≤ len / fb
     → behind * fb + frames * fb ≤ len
 frames_there behind frames len fb le =

@@ -23,7 +23,7 @@ use Rattle.block_builder.specs.declared.arrival.Arrival.TheVariants.{Packet, Mar
 use Rattle.block_builder.specs.declared.intake.Intake.{Intake}
 use Rattle.block_builder.specs.declared.intake.TheConstants.{HALF, WHOLE}
 
--- What rules the blocks of an input of this device, in a session of so many ticks.
+-- What rules the blocks of an input of this device, in a session of a given number of ticks.
 abbrev pub intake_for : DeviceParts → Input → ℕ → Intake
 intake_for d i ticks =
     record {
@@ -57,9 +57,9 @@ tick_at n place = (place - HALF) / n.frames
 
 -- ---- what counts
 
--- What a packet that counts brings: so many frames from a place on, with their samples, and the
--- tick of its last frame, which may lie past the session's end. A reading of the clock brings no
--- frame, and its tick is the last.
+-- What a packet that counts brings: a given number of frames from a place on, with their samples,
+-- and the tick of its last frame, which may lie past the session's end. A reading of the clock
+-- brings no frame, and its tick is the last.
 pub record Piece : Type 0 where
   pub first : ℕ
   pub count : ℕ
@@ -98,8 +98,8 @@ abbrev pub read_pieces : Intake → Option RtpReading → List Piece
 read_pieces n None = []
 read_pieces n (Some r) = packet_pieces n r.head r.payload
 
--- What an arrival brings. A packet that doesn't read or doesn't count brings nothing. The end is a
--- reading of the clock past all ticks of the session.
+-- What an arrival brings. A packet that does not read or does not count brings nothing. The end is
+-- a reading of the clock past all ticks of the session.
 abbrev pub pieces_by : Intake → Arrival → List Piece
 pieces_by n (Packet bytes) = read_pieces n (reading_of bytes)
 pieces_by n (Mark tick) = clock_piece (tick - n.base) ∷ []
@@ -135,7 +135,7 @@ abbrev pub covers : ℕ → Piece → Bool
 covers place p = nat_le p.first place && nat_lt place (p.first + p.count)
 
 -- The packet whose samples a frame of a tick holds, in words: the first that covers it, where no
--- piece before it closes the tick. (`closes` comes behind `covers`: a packet is stored first and
+-- piece before it closes the tick. (`closes` comes after `covers`: a packet is stored first and
 -- closes afterwards.)
 pub record IsHolder (n : Intake) (pieces : List Piece) (tick place : ℕ) (p : Piece) : Type 0 where
   pub before : List Piece
@@ -155,8 +155,8 @@ holder n pieces tick place =
     option_and_then (λ p. (if covers place p then Some p else None))
     (find (decides n tick place) pieces)
 
--- so many samples of a payload in order (RFC 3551, sections 4.3 and 4.5.11, and RFC 3190, section
--- 4)
+-- a given number of samples of a payload in order (RFC 3551, sections 4.3 and 4.5.11, and RFC 3190,
+-- section 4)
 abbrev pub samples_in : Width → ℕ → List ℕ → List ℤ
 samples_in width count payload =
     let size = bytes_per_sample width in
@@ -201,8 +201,8 @@ block_by n held = if is_held n held then Some (tick_samples n held) else None
 unfoldable pub block_at : Intake → List Arrival → ℕ → Option (List ℤ)
 block_at n arrivals tick = block_by n (held_at n (pieces_of n arrivals) (tick - n.base))
 
--- The block of an input of a device at a tick, in a session of so many ticks from the device's
--- first one.
+-- The block of an input of a device at a tick, in a session of a given number of ticks from the
+-- device's first one.
 abbrev pub block_of : DeviceParts → ℕ → ℕ → List Arrival → ℕ → Option (List ℤ)
 block_of d input ticks arrivals tick =
     option_and_then (λ n. block_at n arrivals tick) (intake_of d input ticks)

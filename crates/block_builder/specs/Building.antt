@@ -40,7 +40,7 @@ pub record IsBuilder (n : Intake) (arrivals : List Arrival) (slots : List Slot)
   pub slots_fit : All (IsSlot n) slots
   pub window : IsWindow n (held_at n (pieces_of n arrivals)) given slots
 
--- the blocks of so many ticks from the first
+-- the blocks of a given number of ticks from the first
 abbrev pub blocks_upto : Intake → List Arrival → ℕ → List (Option (List ℤ))
 blocks_upto n arrivals upto = map (λ k. block_at n arrivals (n.base + k)) (range_with_len 0 upto)
 
@@ -57,7 +57,7 @@ HaveShape n blocks = All (λ b. IfSome b (IsBlock n)) blocks
 abbrev pub FitInput : DeviceParts → ℕ → ℕ → List (Option (List ℤ)) → Type 0
 FitInput d input ticks blocks = (n : Intake) → intake_of d input ticks ≡ Some n → HaveShape n blocks
 
--- ---- one packet more, while no closed tick is left: so many ticks were handed out as the pieces
+-- ---- one packet more, while no closed tick is left: as many ticks were handed out as the pieces
 -- before it close
 
 -- new slots show what the pieces before and its own leave held, where the old ones show what those

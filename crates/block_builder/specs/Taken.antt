@@ -46,7 +46,7 @@ taken_by n pieces head payload =
     then used_or_spent (new_frames n pieces (piece_at n first payload))
     else Spent)))
 
--- a packet that doesn't read has this fault (RFC 3550, sections 5.1 and 5.3.1)
+-- a packet that does not read has this fault (RFC 3550, sections 5.1 and 5.3.1)
 abbrev pub IsRtpFault : RtpFault → List ℕ → Type 0
 IsRtpFault Short bytes = IsShort bytes
 IsRtpFault Version bytes = IsOtherVersion bytes

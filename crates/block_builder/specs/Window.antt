@@ -78,7 +78,7 @@ IsAdded n p tick samples flags new_samples new_flags =
     (held : Held) → IsShown n held samples flags
     → IsShown n (added n p tick held) new_samples new_flags
 
--- so many of its frames are the first
+-- a given number of its frames are the first
 abbrev pub IsFreshCount : Intake → Piece → ℕ → List ℤ → List Bool → ℕ → Type 0
 IsFreshCount n p tick samples flags count =
     (held : Held) → IsShown n held samples flags → count ≡ fresh_at n p tick held

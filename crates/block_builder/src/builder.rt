@@ -46,8 +46,8 @@ impl Model for Builder {
 }
 
 impl Builder {
-    /// A builder for an input that is there, in a session of so many ticks from the device's first
-    /// one.
+    /// A builder for an input that is there, in a session of a given number of ticks from the
+    /// device's first one.
     pub fn new(alloc: Global, device: &Device, input: u8, ticks: u64) -> Result<Builder, NoMemory>
         requires input { input < length device.now.inputs }
         requires ticks { ticks ≤ SESSION_TICKS }
@@ -95,8 +95,8 @@ impl Builder {
 
     /// Takes a packet, once all closed ticks were handed out, and tells what became of it. Its
     /// frames go where no earlier packet's are, in the ticks that are open; afterwards it closes
-    /// the ticks that lie more than the hold before that of its last frame. Want of memory leaves
-    /// the builder as it was.
+    /// the ticks that lie more than the hold before that of its last frame. If memory runs out, the
+    /// builder stays as it was.
     pub fn take(&mut self, packet: &[u8]) -> Result<Taken, NoMemory>
         requires { IsDrained self.old }
         ensures ok { OnOk result (self.new ≡ with_arrival self.old (Packet packet.now)) }

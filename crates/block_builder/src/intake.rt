@@ -35,7 +35,8 @@ pub struct Intake {
 }
 
 impl Intake {
-    /// That of an input that is there, in a session of so many ticks from the device's first one.
+    /// That of an input that is there, in a session of a given number of ticks from the device's
+    /// first one.
     pub(crate) fn of(device: &Device, input: u8, ticks: u64) -> Intake
         requires input { input < length device.now.inputs }
         requires ticks { ticks ≤ SESSION_TICKS }

@@ -21,7 +21,7 @@ pub use taken::{PacketFault, Taken};
 /// bits.
 pub type Block = io_caps::ListOf<i32>;
 
-/// The blocks of ticks, one behind the other, and `None` for a tick of which no frame holds a
+/// The blocks of ticks, one after the other, and `None` for a tick of which no frame holds a
 /// packet's samples.
 pub type Blocks = io_caps::ListOf<Option<Block>>;
 

@@ -27,7 +27,7 @@ pub struct Slot {
     pub(crate) held: Vec<bool>,
 }
 
-/// Reads so many samples, one behind the other.
+/// Reads a given number of samples, one after the other.
 pub(crate) fn put_samples(out: &mut [i32], payload: &[u8], width: Width)
     requires range { All IsSample out.old }
     requires there { length out.old * bytes_per_sample width ≤ length payload.now }

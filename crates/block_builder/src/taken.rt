@@ -7,7 +7,7 @@ use thiserror::Error;
 /// `Misfit`, `Beyond`, `Spent` and `Used` that applies.
 #[derive(Clone, Copy, Debug, PartialEq, Eq)]
 pub enum Taken {
-    /// So many of its frames were stored: at least one.
+    /// This many of its frames were stored: at least one.
     Used { frames: u32 },
     /// None of its frames was stored: there is none, or each lies before the session, in a closed
     /// tick, in a frame that holds samples, or past the session's end.

@@ -40,8 +40,8 @@ fn is_at(slots: &VecDeque<Slot>, at: usize, tick: u64) -> bool
     at < slots.len() && slots[at].tick == tick
 }
 
-/// Makes a slot for each tick of a range that has none. Want of memory may leave some of them,
-/// which hold nothing.
+/// Makes a slot for each tick of a range that has none. If memory runs out, some of them may be
+/// left, which hold nothing.
 pub(crate) fn add_blanks(
     alloc: Global,
     slots: &mut VecDeque<Slot>,
@@ -144,8 +144,8 @@ pub(crate) fn fill_all(
     used
 }
 
-/// Stores the frames of a packet in the ticks from one on, and answers how many. Want of memory
-/// changes nothing that the slots show.
+/// Stores the frames of a packet in the ticks from one on, and answers how many. If memory runs
+/// out, nothing changes that the slots show.
 pub(crate) fn store(
     alloc: Global,
     slots: &mut VecDeque<Slot>,

@@ -76,7 +76,7 @@ fn see_clock<'a>(last: usize) -> Seen<'a>
     }
 }
 
-/// What a packet brings, and `None` where it doesn't count.
+/// What a packet brings, and `None` where it does not count.
 fn see_packet(intake: Intake, bytes: &[u8]) -> Option<Seen<'_>>
     requires { IsIntake intake }
     ensures value { option_to_list (option_map piece_seen result)
@@ -97,7 +97,7 @@ fn see_packet(intake: Intake, bytes: &[u8]) -> Option<Seen<'_>>
     })
 }
 
-/// What an arrival brings, and `None` where it is a packet that doesn't count.
+/// What an arrival brings, and `None` where it is a packet that does not count.
 fn see(intake: Intake, arrival: &Arrival) -> Option<Seen<'_>>
     requires { IsIntake intake }
     ensures value { option_to_list (option_map piece_seen result) ≡ pieces_by intake arrival.now }
@@ -186,8 +186,9 @@ fn block_at(
     Ok(if is_held { Some(samples) } else { None })
 }
 
-/// The block at a tick of an input that is there, after these arrivals, in a session of so many
-/// ticks from the device's first one; and `None` where no frame of it holds a packet's samples.
+/// The block at a tick of an input that is there, after these arrivals, in a session of a given
+/// number of ticks from the device's first one; and `None` where no frame of it holds a packet's
+/// samples.
 pub fn block_by_rule(
     alloc: Global,
     device: &Device,

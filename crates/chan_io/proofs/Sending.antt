@@ -33,7 +33,7 @@ sent_all start mid new waiting text h alike took = record {
   parts = h.parts ∙ sym (append-nil (h.sent ++ waiting));
 }
 
--- bytes that come to a text wait behind the others
+-- bytes that come to a text wait after the others
 pub sent_later : (start now : Option (List ℕ)) (waiting text bytes : List ℕ)
     → HasSent start now waiting text
     → HasSent start now (waiting ++ bytes) (text ++ bytes)
@@ -68,7 +68,7 @@ longer_front start now text bytes p = record {
   taken = p.taken;
 }
 
--- bytes in place behind those that wait
+-- bytes in place after those that wait
 pub placed : (buffer bytes behind : List ℕ) (waiting : ℕ)
     → waiting ≤ length buffer
     → take (waiting + length bytes) (take waiting buffer ++ (bytes ++ behind))
@@ -80,7 +80,7 @@ placed buffer bytes behind waiting within =
     ap (λ (z : List ℕ). take (waiting + length bytes) z) (sym (append_assoc front bytes behind))
     ∙ take_at (front ++ bytes) behind (waiting + length bytes) long
 
--- ---- one text behind another
+-- ---- one text after another
 
 -- more, and then more
 pub sends_then : (a b c : Option (List ℕ)) (wa wb wc x y : List ℕ) → SendsOn a wa b wb x

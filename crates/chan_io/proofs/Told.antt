@@ -40,14 +40,14 @@ Appends-then (Some xs) None c x y p q = absurd p
 Appends-then (Some xs) (Some ys) None x y p q = absurd q
 Appends-then (Some xs) (Some ys) (Some zs) x y p q = q ∙ ap (λ (t : List ℕ). t ++ y) p ∙ append_assoc xs x y
 
--- What took the first i bytes of a text, and then the n behind them, took the first i + n.
+-- What took the first i bytes of a text, and then the n after them, took the first i + n.
 pub Appends-more : (a b c : Option (List ℕ)) (text : List ℕ) (i n : ℕ) → Appends a b (take i text)
     → Appends b c (take n (take (length text - i) (drop i text))) → Appends a c (take (i + n) text)
 Appends-more a b c text i n p q =
     let rest : take (length text - i) (drop i text) ≡ drop i text = between_to_end text i (length text) (omega arith) in
     rw (take-add i n text) (Appends-then a b c (take i text) (take n (drop i text)) p (rw rest at q))
 
--- What gave some bytes, and then the last ones, gave them all: no more than so many,
+-- What gave some bytes, and then the last ones, gave them all: no more than a given number,
 pub read_more : (a b c : Option (List ℕ)) (before last : List ℕ) (most : ℕ)
     → TellsAlike a b → Consumes a b before → TellsAlike b c → Consumes b c last
     → length before + length last ≤ most → BoundedRead a c most

@@ -130,8 +130,7 @@ impl Sink for MemSink {
 
     ghost faults = { sink_faults };
 
-    /// Takes the whole piece. It fails at the writes listed, and elsewhere for want of memory
-    /// alone.
+    /// Takes the whole piece. It fails at the writes listed, and elsewhere only if memory runs out.
     fn write(&mut self, piece: &[u8]) -> Result<usize, Failed>
         ensures bytes { Writes (Some (bytes_taken self.old))
             (Some (bytes_taken self.new)) result piece.now }

@@ -10,8 +10,8 @@ use crate::{Failed, Sink};
 use std::alloc::{AllocError, Global};
 
 /// Bytes on their way to a sink: those at the front of a buffer wait to be given to it. More may be
-/// written there in place, behind them. A text that met a failure of the sink isn't gone on with:
-/// how much of what waits the sink took isn't known.
+/// written there in place, after them. A text that met a failure of the sink is not gone on with:
+/// how much of what waits the sink took is not known.
 #[derive(Drop)]
 pub struct Outgoing {
     /// As many bytes as may wait at once.
@@ -61,8 +61,8 @@ impl Outgoing {
         Ok(())
     }
 
-    /// Makes room for so many more bytes, where the buffer has so much: gives the sink what waits
-    /// only if they'd find none beside it.
+    /// Makes room for more bytes, if the buffer has as much: gives the sink what waits only if they
+    /// would find none beside it.
     pub fn make_room<K: Sink>(&mut self, sink: &mut K, count: usize) -> Result<(), Failed>
         ensures cause { HasCause (K.faults sink.old) (K.faults sink.new) result }
         ensures size { length self.new.buffer.items ≡ length self.old.buffer.items }
@@ -83,7 +83,7 @@ impl Outgoing {
         Ok(())
     }
 
-    /// Lets bytes wait behind those that do. The sink is called only where they find no room.
+    /// Appends bytes to those that wait. The sink is called only if they do not fit.
     pub fn put<K: Sink>(&mut self, sink: &mut K, bytes: &[u8]) -> Result<(), Failed>
         ensures cause { HasCause (K.faults sink.old) (K.faults sink.new) result }
         ensures size { length self.new.buffer.items ≡ length self.old.buffer.items }

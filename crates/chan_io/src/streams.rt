@@ -21,7 +21,7 @@ pub trait Source {
     ghost faults: { Self → ℕ };
 
     /// Moves the next bytes to the front of the buffer, and answers how many. For a buffer that is
-    /// not empty, 0 is the end of the source. What stands in the buffer behind these bytes is not
+    /// not empty, 0 is the end of the source. What stands in the buffer after these bytes is not
     /// said, and nor is what a failed read leaves in it.
     fn read(&mut self, buf: &mut [u8]) -> Result<usize, Failed>
         ensures bytes { Reads (left self.old) (left self.new) result buf.new }

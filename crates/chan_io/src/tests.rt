@@ -154,7 +154,7 @@ impl Write for FailsOnce {
     }
 }
 
-/// An error is answered, and the stream isn't tried again by itself.
+/// An error is answered, and the stream is not tried again by itself.
 #[test]
 fn failing_streams(rt: HostRuntime) {
     let mut buffer = [0u8; 4];

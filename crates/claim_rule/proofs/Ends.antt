@@ -66,14 +66,14 @@ opens_kept start words o =
       },
     )
 
--- the entries behind those that a draw found change no row of its tick
+-- the entries after those that a draw found change no row of its tick
 pub stays_selected : (plan : Plan) (list : List Entry) (drawn : ℕ) (d : Draw)
     → IsGood plan list drawn d → StaysSelected plan list d
 stays_selected plan list drawn d g early output =
     ap (λ (l : List Entry). selected l output (tick_of plan d.number)) g.front
     ∙ selected-later due d.found g.rest output (tick_of plan d.number) (g.later early)
 
--- what is known where so many numbers were drawn
+-- what is known where that many numbers were drawn
 ends_at : (plan : Plan) (list : List Entry) (draws : List Draw) (seen : List Sight) (drawn : ℕ)
     → drawn ≡ length draws → drawn ≤ plan.packets + plan.workers
     → IsListed plan list drawn → All (IsGood plan list drawn) draws

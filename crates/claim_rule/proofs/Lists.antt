@@ -59,8 +59,8 @@ pub good_drawn : (plan : Plan) (list : List Entry) (drawn : ℕ) (d : Draw) → 
 good_drawn plan list drawn d g = let b = g.below in
     record { below = omega arith; rest = g.rest; front = g.front; later = g.later }
 
--- entries of so many claims, whose ticks haven't begun, count from ticks behind those of all draws
--- before
+-- entries of a given number of claims, whose ticks have not begun, count from ticks after those of
+-- all draws before
 later_ticks : (plan : Plan) (drawn : ℕ) (new : List Entry) (number : ℕ) → 0 < outputs_of plan
     → number < drawn → number < plan.packets
     → All (λ e. e.at ≡ claims_at plan drawn) new → All (IsTimely plan) new

@@ -30,7 +30,7 @@ use Rattle.claim_rule.proofs.Fitting.{some_output}
 use Rattle.claim_rule.proofs.Steps.{Table, Seat, head_raw, raw_is, unmoved, fits_on, later_here}
 use Rattle.claim_rule.proofs.Steps.{seen_fits}
 
--- the list with new entries of so many draws
+-- the list with new entries of a given number of draws
 pub listed_more : (plan : Plan) (list new : List Entry) (drawn : ℕ) (v : View)
     → IsListed plan list drawn → v.entries ≡ list
     → MayPublish plan v new drawn

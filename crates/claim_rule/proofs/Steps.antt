@@ -312,7 +312,7 @@ sees_keeps start slots id me s kept _ at _ =
 
 -- ---- the publisher stores a word
 
--- a word behind the entries spells none of them
+-- a word after the entries spells none of them
 spelt_else : (plan : Plan) (list : List Entry) (cells : List ℕ) (p word : ℕ) → IsSound plan
     → All (IsFit plan) list → length list * stride ≤ p
     → Spells cells list

@@ -32,11 +32,12 @@ tick_of plan number = claim_tick plan.setup.device.base (outputs_of plan) (plan.
 abbrev pub output_of : Plan → ℕ → ℕ
 output_of plan number = claim_output (outputs_of plan) (plan.from + number)
 
--- how many claims were made when so many numbers are drawn: numbers past the packets are no claims
+-- how many claims were made when that many numbers are drawn: numbers past the packets are no
+-- claims
 abbrev pub claims_at : Plan → ℕ → ℕ
 claims_at plan drawn = plan.from + min drawn plan.packets
 
--- the first tick not begun after so many claims
+-- the first tick not begun after a number of claims
 abbrev pub begin : Plan → ℕ → ℕ
 begin plan claims = first_tick plan.setup.device.base (outputs_of plan) claims
 

@@ -21,7 +21,7 @@ StaysSelected plan list d =
     ≡ selected d.found output (tick_of plan d.number)
 
 -- All entries, all draws and what was seen, once every pass is back: each number below as many as
--- there are draws was drawn once, and no other; the entries behind those that a draw found count
+-- there are draws was drawn once, and no other; the entries after those that a draw found count
 -- from later ticks, so they change no row of it; and no state seen was beyond.
 pub record Ends (plan : Plan) (list : List Entry) (draws : List Draw)
     (seen : List Sight) : Type 0 where
@@ -40,7 +40,7 @@ EndKnown =
     → Final (Seen (Kept start) id v) words slots
     → Ends (plan_of start) v.entries v.draws (v.sights ++ v.told)
 
--- the entries behind those that a draw found change no row of its tick
+-- the entries after those that a draw found change no row of its tick
 abbrev pub RowsStay : Type 0
 RowsStay = (plan : Plan) (list : List Entry) (drawn : ℕ) (d : Draw) → IsGood plan list drawn d
     → StaysSelected plan list d

@@ -47,7 +47,7 @@ reads st me word after =
     → word ≡ slice_index (entry_words (slice_index_or me.0.entries i d)) k)
 
 -- The state is not below those that were seen, nor those of which the seat was told. The publisher
--- finds as many entries as it has published, and there are at most so many draws as packets and
+-- finds as many entries as it has published, and there are at most as many draws as packets and
 -- workers.
 pub record IsLater (v : View) (word : ℕ) : Type 0 where
   pub sights : All (IsSight (count_of word) (raw_of word)) v.sights
@@ -76,8 +76,9 @@ publishes st me word after =
     (after ≡ (added me.0 (said_of st.said), me.1))
     ((after ≡ (saw me.0 (raw_of word) (count_of word), me.1)) × IsLater me.0 word)
 
--- What the publisher owes where it publishes: words that spell the new entries behind the others,
--- which have room and fit the plan; the claims at so many draws; and ticks that haven't begun then.
+-- What the publisher owes where it publishes: words that spell the new entries after the others,
+-- which have room and fit the plan; the claims at a number of draws; and ticks that have not begun
+-- then.
 pub record MayPublish (plan : Plan) (v : View) (new : List Entry) (raw : ℕ) : Type 0 where
   pub spelt : Spells v.cells (v.entries ++ new)
   pub room : length v.entries + length new ≤ places

@@ -30,9 +30,9 @@ abbrev pub Rises : ℕ → List Entry → ℕ → Type 0
 Rises low [] high = low ≤ high
 Rises low (e ∷ es) high = (low ≤ e.at) × Rises e.at es high
 
--- The list of entries at so many draws. It begins with those given; each output has a row from the
--- table's first tick on; and an entry that was published here counts from no tick that had begun
--- then.
+-- The list of entries at a number of draws. It begins with those given; each output has a row from
+-- the table's first tick on; and an entry that was published here counts from no tick that had
+-- begun then.
 pub record IsListed (plan : Plan) (list : List Entry) (drawn : ℕ) : Type 0 where
   pub room : length list ≤ places
   pub given : plan.given ≤ length list
@@ -41,7 +41,7 @@ pub record IsListed (plan : Plan) (list : List Entry) (drawn : ℕ) : Type 0 whe
   pub rises : Rises 0 list (claims_at plan drawn)
   pub timely : All (IsTimely plan) (drop plan.given list)
 
--- Behind the entries that a draw found, those published since count from ticks behind that of the
+-- After the entries that a draw found, those published since count from ticks after that of the
 -- draw alone.
 pub record IsGood (plan : Plan) (list : List Entry) (drawn : ℕ) (d : Draw) : Type 0 where
   pub below : d.number < drawn

@@ -36,7 +36,7 @@ abbrev pub LookKeeps : Type 0
 LookKeeps = (start : Start) (slots id : ℕ) (me : Knows)
     → Allows (Kept start) slots id me 0 (λ n. n) (sees (step slots 0 0 0 none) me)
 
--- the publisher stores a word behind those of the entries published
+-- the publisher stores a word after those of the entries published
 abbrev pub StoreKeeps : Type 0
 StoreKeeps =
     (start : Start) (slots id : ℕ) (me : Knows) (i p word : ℕ) → i ≡ p + 1 → me.0.publishes ≡ true

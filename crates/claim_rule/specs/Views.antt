@@ -44,12 +44,12 @@ once_below number bound = cond (nat_le bound number) 0 1
 
 -- ---- states seen
 
--- a state that was seen: so many numbers drawn, and so many entries published
+-- a state that was seen: how many numbers were drawn, and how many entries published
 abbrev pub sight : ℕ → ℕ → Sight
 sight raw count = record { raw = raw; count = count }
 
--- a table on which so many entries are published and so many numbers drawn has come as far as the
--- state seen
+-- a table with these numbers of entries published and of numbers drawn has come as far as the state
+-- seen
 pub record IsSight (count drawn : ℕ) (s : Sight) : Type 0 where
   pub raw : s.raw ≤ drawn
   pub entries : s.count ≤ count
@@ -71,7 +71,7 @@ opener start = record {
   told = [];
 }
 
--- a new view of so many parts that was told of these states
+-- a new view of a given number of parts that was told of these states
 abbrev pub newcomer : Plan → ℕ → List Sight → View
 newcomer plan parts told = record {
   live = true;
@@ -123,7 +123,7 @@ saw v raw count = record v { sights = v.sights ++ sight raw count ∷ [] }
 abbrev pub wrote : View → ℕ → ℕ → View
 wrote v place word = record v { cells = slice_set v.cells place word }
 
--- a view that published entries behind those before
+-- a view that published entries after those before
 abbrev pub added : View → List Entry → View
 added v new = record v { entries = v.entries ++ new }
 

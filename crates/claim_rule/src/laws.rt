@@ -26,7 +26,7 @@ pub fn look_keeps()
     ensures { LookKeeps }
 {}
 
-/// A store of the publisher, behind the entries published, keeps the rule.
+/// A store of the publisher, after the entries published, keeps the rule.
 pub fn store_keeps()
     ensures { StoreKeeps }
 {}

@@ -44,7 +44,7 @@ impl Play<Entries, View> for Sees {
     ghost then = { sees };
 }
 
-/// The publisher stores a word behind the entries published.
+/// The publisher stores a word after the entries published.
 pub struct Writes;
 
 impl Play<Entries, View> for Writes {

@@ -16,7 +16,7 @@ hz_few hz rate = grind arith
 more_frames : (a frames : ℕ) → 1 ≤ frames → a ≤ a * frames
 more_frames a frames some = let m : a * 1 ≤ a * frames = mul-le-mul_left a some in omega arith
 
--- the first tick, with as many ticks behind it as there are claims
+-- the first tick, with as many ticks after it as there are claims
 pub base_few : (d : DeviceParts) → IsDevice d → d.base + CLAIMS_LIMIT < TICKS_LIMIT
 base_few d device =
     let b = device.bounds in let hz = hz_few d.rate.hz b.rate.0 in

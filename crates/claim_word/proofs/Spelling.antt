@@ -30,7 +30,7 @@ use Rattle.claim_word.specs.Writings.{IsWide}
 
 -- ---- cells of a row that passes the check
 
--- no cell names an input or channel that isn't there
+-- no cell names an input or channel that is not there
 none_out : (d : DeviceParts) (o : ℕ) (row : List Cell) → IsRowOk d o row
     → (lowest_out (λ channel. is_input_there d.inputs) row ≡ None)
     × (lowest_out (λ channel. is_channel_there d.inputs) row ≡ None)

@@ -95,7 +95,7 @@ row_words plan d =
 abbrev pub IsFrugal : View → Type 0
 IsFrugal v = v.loads ≤ head_words * length v.entries + sum_by (row_words v.plan) v.draws
 
--- the view so many loads later
+-- the view a given number of loads later
 abbrev pub read_on : View → ℕ → View
 read_on v n = record v { loads = v.loads + n }
 

@@ -39,7 +39,8 @@ with_clients v cs = record v { told = v.told ++ seen_in cs }
 abbrev pub times_claimed : ℕ → List (List ℕ) → ℕ
 times_claimed k lists = sum_by (count_by (eqb k)) lists
 
--- 1 for the number of a claim that was made on the table, after so many draws, and 0 for another
+-- 1 for the number of a claim that was made on the table, after a number of draws, and 0 for
+-- another
 abbrev pub once_claimed : Plan → ℕ → ℕ → ℕ
 once_claimed plan drawn k =
     cond (nat_le plan.from k && nat_lt k (plan.from + min drawn plan.packets)) 1 0

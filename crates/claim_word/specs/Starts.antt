@@ -11,7 +11,7 @@ use Rattle.claim_rule.specs.declared.words.TheConstants.{TICKS_LIMIT}
 use Rattle.claim_rule.specs.Rule.{Rises}
 use Rattle.claim_word.specs.Faces.{TableFace, PublisherFace, IsPublisherOf}
 
--- the plan of a table of so many ticks
+-- the plan of a table of a given number of ticks
 abbrev pub planned : SetupParts → ℕ → ℕ → ℕ → List Entry → Plan
 planned s from ticks workers base = record {
   setup = s;
@@ -21,10 +21,10 @@ planned s from ticks workers base = record {
   given = length base;
 }
 
--- What is asked of the entries with which a table begins, at so many claims: they are few; their
--- outputs are there, and their rows pass the check; words can spell their ticks; the claims at
--- their publication never fall along the list, and end at those of the start; and each output has a
--- row from the table's first tick on.
+-- What is asked of the entries with which a table begins, at a number of claims: they are few;
+-- their outputs are there, and their rows pass the check; words can spell their ticks; the claims
+-- at their publication never fall along the list, and end at those of the start; and each output
+-- has a row from the table's first tick on.
 pub record IsBase (s : SetupParts) (from : ℕ) (base : List Entry) : Type 0 where
   pub few : length base ≤ MOST_BASE_ENTRIES
   pub rows : All (IsEntryOk s.device) base

@@ -16,7 +16,7 @@ use Rattle.claim_rule.specs.Views.{IsSight, sight, saw}
 use Rattle.claim_word.specs.declared.state.State.{State}
 
 -- A state that is seen: its claims are those of its draws, it is not below what was seen or told
--- before, and there are at most so many draws as packets and workers.
+-- before, and there are at most as many draws as packets and workers.
 pub record IsState (v : View) (s : State) : Type 0 where
   pub claims : s.claims ≡ claims_at v.plan s.raw
   pub few : s.claims < CLAIMS_LIMIT
@@ -34,7 +34,7 @@ pub record HasSeen (v : View) (s : State) : Type 0 where
   pub claims : s.claims ≡ claims_at v.plan s.raw
   pub entries : s.entries ≡ length v.entries
 
--- What a publication asks of new entries behind those published, at so many claims: there are
+-- What a publication asks of new entries after those published, at a number of claims: there are
 -- places for them; they say that they were published at these claims; their outputs are there, and
 -- their rows pass the check; words can spell their ticks; and none counts from a tick that has
 -- begun.
@@ -45,12 +45,12 @@ pub record ArePublishable (s : SetupParts) (claims : ℕ) (entries new : List En
   pub ticks : All (λ e. e.tick < TICKS_LIMIT) new
   pub timely : All (λ e. first_tick s.device.base (length s.device.outputs) e.at ≤ due e) new
 
--- the new entries stand behind the others, all at once, and nothing else changes but the words of
+-- the new entries follow the others, all at once, and nothing else changes but the words of
 -- places
 abbrev pub IsPublished : View → View → List Entry → Type 0
 IsPublished v w new = w ≡ record v { entries = v.entries ++ new; cells = w.cells }
 
--- so many numbers were drawn: this was seen, no entry is published, and nothing else changes but
+-- that many numbers were drawn: this was seen, no entry is published, and nothing else changes but
 -- the words of places
 abbrev pub IsMissed : View → View → ℕ → Type 0
 IsMissed v w raw = w ≡ record (saw v raw (length v.entries)) { cells = w.cells }

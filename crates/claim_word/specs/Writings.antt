@@ -24,7 +24,7 @@ pub record WroteAt (v w : View) (place : ℕ) (e : Entry) : Type 0 where
   pub spelt : IsSpeltAt w.cells place e
   pub before : (p : ℕ) → p < place * stride → slice_index w.cells p ≡ slice_index v.cells p
 
--- the view after entries were written behind those that it knows
+-- the view after entries were written after those that it knows
 pub record WroteAll (v w : View) (new : List Entry) : Type 0 where
   pub only : w ≡ record v { cells = w.cells }
   pub long : length w.cells ≡ length v.cells

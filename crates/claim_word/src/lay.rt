@@ -25,7 +25,7 @@ pub(crate) fn words_of(alloc: Global, entries: &Entries, count: usize) -> Result
     Ok(words)
 }
 
-/// So many zeros.
+/// A given number of zeros.
 fn zeros(alloc: Global, count: usize) -> Result<Vec<u64>, NoMemory>
     ensures { IfOk result (λ words. length words.items ≡ count) }
 {

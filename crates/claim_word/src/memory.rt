@@ -76,7 +76,7 @@ impl Memory {
         })
     }
 
-    /// Reads the row of the last claim, where it wasn't read: the heads that are new, and then the
+    /// Reads the row of the last claim, where it was not read: the heads that are new, and then the
     /// words of the row of the last entry that rules the claim's tick.
     pub fn find(&mut self, table: &ClaimTable, seat: &mut Seat<Entries, View>, claim: &Claim)
         requires table { (seat.old.table_id ≡ table.now.id) × IsSound seat.old.me.0.plan }
@@ -103,7 +103,7 @@ impl Memory {
     }
 }
 
-/// Reads the heads of entries that weren't read.
+/// Reads the heads of entries that were not read.
 fn read_heads(
     table: &ClaimTable,
     seat: &mut Seat<Entries, View>,

@@ -7,7 +7,7 @@ ghost use Rattle.claim_rule.specs.Claims.{claims_at};
 use crate::publisher::Publisher;
 
 impl Publisher {
-    /// How many claims of the whole session were made once so many numbers are drawn.
+    /// How many claims of the whole session were made once that many numbers are drawn.
     pub fn claims_at(&self, drawn: u32) -> u64
         ensures value { result ≡ claims_at self.now.view.plan drawn }
         ensures few { result < CLAIMS_LIMIT }

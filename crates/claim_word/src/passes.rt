@@ -41,7 +41,7 @@ impl Room {
 
 impl Publisher {
     /// Makes a worker's pass, with the room that it will need. `NoSeat` comes exactly where as many
-    /// were made as the table is for; nothing changes then, nor for want of memory.
+    /// were made as the table is for; nothing changes then, nor if memory runs out.
     pub fn worker(&mut self, table: &ClaimTable) -> Result<WorkerPass, Or<NoSeat>>
         requires { IsPublisherOf table.now self.old }
         ensures of { IsPublisherOf table.now self.new }

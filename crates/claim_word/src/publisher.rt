@@ -91,7 +91,7 @@ impl Publisher {
         self.span.state(word)
     }
 
-    /// Publishes entries all at once, by one exchange behind the stores of their words, unless a
+    /// Publishes entries all at once, by one exchange after the stores of their words, unless a
     /// number was drawn since the state was seen. Then none is published. No memory is taken.
     pub fn try_publish(
         &mut self,

@@ -45,7 +45,7 @@ impl Shelf {
         })
     }
 
-    /// Puts a copy of an entry behind the others.
+    /// Puts a copy of an entry after the others.
     pub fn keep(&mut self, entry: &Entry)
         requires room { length self.old < PLACES }
         requires short { length entry.now.row ≤ MOST_CHANNELS }
@@ -58,7 +58,7 @@ impl Shelf {
         }
     }
 
-    /// Puts copies of entries behind the others.
+    /// Puts copies of entries after the others.
     pub fn keep_all(&mut self, entries: &[Entry])
         requires room { length self.old + length entries.now ≤ PLACES }
         requires short { All (λ e. length e.row ≤ MOST_CHANNELS) entries.now }
@@ -105,7 +105,7 @@ fn spare_rows(alloc: Global) -> Result<Vec<Row>, NoMemory>
     Ok(rows)
 }
 
-/// A row of so many channels that are not routed.
+/// A row of a given number of channels that are not routed.
 fn unrouted(alloc: Global, channels: usize) -> Result<Row, NoMemory>
     ensures { IfOk result (λ row. length row ≡ channels) }
 {

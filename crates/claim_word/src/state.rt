@@ -20,7 +20,7 @@ impl TryCopy for State {
     }
 }
 
-/// A number was drawn since the state was seen: so many were drawn by now.
+/// A number was drawn since the state was seen: this many were drawn by now.
 #[derive(Clone, Copy, Debug, PartialEq, Eq)]
 pub struct Moved {
     pub raw: u32,

@@ -44,8 +44,9 @@ impl Model for ClaimTable {
 }
 
 impl ClaimTable {
-    /// Starts a table of so many ticks, from a number of claims on, for so many workers. It begins
-    /// with the base entries. All the memory is taken that publishing, and the end, will need.
+    /// Starts a table of a given number of ticks, from a number of claims on, for a given number of
+    /// workers. It begins with the base entries. All the memory is taken that publishing, and the
+    /// end, will need.
     pub fn start(
         alloc: Global,
         setup: &Setup,

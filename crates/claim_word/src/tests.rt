@@ -213,8 +213,8 @@ fn is_row(device: &Device, output: u8, row: &Row) -> bool
     }
 }
 
-/// Whether an entry counts from no tick that has begun after so many claims, and words can spell
-/// its tick.
+/// Whether an entry counts from no tick that has begun after a number of claims, and words can
+/// spell its tick.
 fn is_timely(device: &Device, claims: u64, tick: u64) -> bool
     ensures timely { IsTrue result
         → first_tick device.now.base (length device.now.outputs) claims ≤ tick }
@@ -295,7 +295,7 @@ fn next_row(table: &ClaimTable, pass: &mut WorkerPass) -> Result<[Cell; 2], Fail
 }
 
 impl Running {
-    /// Publishes an entry: how many numbers were drawn meanwhile, if it didn't come.
+    /// Publishes an entry: how many numbers were drawn meanwhile, if it did not come.
     fn add(&mut self, alloc: Global, new: New) -> Result<Option<u32>, Fail> {
         let seen = self.publisher.state(&self.table);
         publish(
@@ -406,7 +406,7 @@ const STEPS: [(New, [Cell; 2]); 6] = [
     ((0, 1, [RIGHT, LEFT]), [RIGHT, LEFT]),
     ((0, 2, [LEFT, NONE]), [LEFT, RIGHT]),
     ((0, 2, [NONE, NONE]), [NONE, NONE]),
-    // one that hasn't begun
+    // one that has not begun
     ((1, 3, [RIGHT, RIGHT]), [LEFT, RIGHT]),
 ];
 

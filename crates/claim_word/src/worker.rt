@@ -16,7 +16,7 @@ use claim_rule::{Draws, View};
 use map_entry::{Entries, Row};
 use std::marker::Model;
 
-/// A packet that is to be made, fixed by a draw. It can't be made or copied elsewhere.
+/// A packet that is to be made, fixed by a draw. It cannot be made or copied elsewhere.
 #[derive(Debug, Drop)]
 pub struct Claim {
     k: u64,

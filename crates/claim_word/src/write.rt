@@ -1,4 +1,4 @@
-//! How entries are written word by word behind those published.
+//! How entries are written word by word after those published.
 
 ghost use Rattle.std.specs.Prelude.{◌≡◌, ◌+◌, ◌*◌, ◌^◌, ◌<◌, ◌≤◌};
 ghost use Rattle.std.specs.Prelude.{length, true};
@@ -27,7 +27,7 @@ pub(crate) fn heads_of(entry: &Entry) -> (u64, u64)
     )
 }
 
-/// Stores a word of a place behind the entries published.
+/// Stores a word of a place after the entries published.
 fn put_word(table: &ClaimTable, seat: &mut Seat<Entries, View>, cell: usize, word: u64)
     requires table { seat.old.table_id ≡ table.now.id }
     requires publishes { seat.old.me.0.publishes ≡ true }
@@ -38,7 +38,7 @@ fn put_word(table: &ClaimTable, seat: &mut Seat<Entries, View>, cell: usize, wor
     table.table.shared.store::<Writes>(seat, cell + 1, word);
 }
 
-/// Stores the words of an entry at a place behind the entries published.
+/// Stores the words of an entry at a place after the entries published.
 fn put_entry(table: &ClaimTable, seat: &mut Seat<Entries, View>, place: usize, entry: &Entry)
     requires table { seat.old.table_id ≡ table.now.id }
     requires publishes { (seat.old.me.0.publishes ≡ true)
@@ -63,7 +63,7 @@ fn put_entry(table: &ClaimTable, seat: &mut Seat<Entries, View>, place: usize, e
     }
 }
 
-/// Stores the words of entries behind the entries published.
+/// Stores the words of entries after the entries published.
 pub(crate) fn put_entries(
     table: &ClaimTable,
     seat: &mut Seat<Entries, View>,

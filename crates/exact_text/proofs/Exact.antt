@@ -8,7 +8,7 @@
 -- its spelling, both
 -- `unfoldable`. The spelling nests to the right, as in `x.a ∷ (big_bytes 4 x.n ++ [])`, and each
 -- line names its field
--- and the spelling behind it; the last line but one names what fits there:
+-- and the spelling after it; the last line but one names what fits there:
 --
 --   byte_then (λ x. x.a) (λ x. big_bytes 4 x.n ++ []) _ _ _ (λ a a_fits.
 --   number_then 4 wide4 (λ x. x.n) (λ x. []) (λ x. Unit {0}) _ _ (λ n n_fits.

@@ -92,7 +92,7 @@ text_exact n = record {
       rw (long, take_at x rest n good, drop_at x rest n good) refl;
 }
 
--- so many bytes, and then the rest of a value
+-- a given number of bytes, and then the rest of a value
 pub text_then : {X : Type 0} (n : ℕ) (field : X → List ℕ) (others : X → List ℕ) (Good : X → Type 0)
     (more : List ℕ × List ℕ → Option (X × List ℕ)) (Knows : X → Type 0)
     → ((x : X) → Knows x → length (field x) ≡ n)
@@ -238,7 +238,7 @@ many_again {A} read text Fits exact (x ∷ xs) rest fits =
       many_again read text Fits exact xs rest fits.1,
     ) refl
 
--- values one behind the other
+-- values one after the other
 pub many_exact : {A : Type 0} (read : List ℕ → Option (A × List ℕ)) (text : A → List ℕ)
     (Fits : A → Type 0) → Exact read text Fits → (n : ℕ)
     → Exact (many_at read n) (flat_map text) (λ xs. (length xs ≡ n) × AllByRecursion Fits xs)

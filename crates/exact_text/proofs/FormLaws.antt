@@ -78,7 +78,7 @@ left_law = record {
   again = λ x rest fits follows. rw (follows, append-nil) refl;
 }
 
--- ---- one behind the other
+-- ---- one after the other
 
 pub led_law : {A B : Type 0} {Follows : List ℕ → Type 0} {f : Form A} {g : A → Form B}
     → Lawful Anything f → ((a : A) → Lawful Follows (g a)) → Lawful Follows (led f g)
@@ -351,7 +351,7 @@ record_law {B} {Follows} {tag} {form} each = record {
       ) refl;
 }
 
--- ---- lists behind their numbers
+-- ---- lists after their numbers
 
 pub counted_law : {A : Type 0} {Follows : List ℕ → Type 0} {f : Form A} → Lawful Anything f
     → Lawful Follows (counted f)
@@ -364,5 +364,5 @@ counted_text_law {Follows} =
     struct_law (λ xs. (length xs, xs)) (λ p. p.1) (led_law byte_law (λ n. text_law n))
     (λ p fits. ap (λ (n : ℕ). (n, p.1)) fits.1) (λ xs fits. refl)
 
--- what functions need that write one field behind the other
+-- what functions need that write one field after the other
 pub ruleset joined = (append_assoc)

@@ -10,7 +10,7 @@ use Rattle.exact_text.specs.Forms.{Form, byte, number_text, number, led, ◌▸�
 use Rattle.exact_text.specs.Forms.{text_if, FitsIf, variant, constant, no_form, choose, tagged}
 use Rattle.exact_text.specs.Forms.{counted}
 
--- what fits has at most so many bytes
+-- what fits has at most a given number of bytes
 pub record IsShort {A : Type 0} (f : Form A) (n : ℕ) : Type 0 where
   pub most : (x : A) → f.Fits x → length (f.text x) ≤ n
 
@@ -60,7 +60,7 @@ texts_short f n short (x ∷ xs) fits =
 product_up : (a b n : ℕ) → a ≤ b → a * n ≤ b * n
 product_up a b n le = grind arith
 
--- a list behind its number
+-- a list after its number
 pub counted_short : {A : Type 0} {f : Form A} {n : ℕ} → IsShort f n
     → IsShort (counted f) (1 + 255 * n)
 counted_short {A} {f} {n} short = record {

@@ -1,4 +1,4 @@
--- Reading values one behind the other, as a loop does: the steps for the invariant
+-- Reading values one after the other, as a loop does: the steps for the invariant
 -- `with_front front (many_at read (count - i) rest) ≡ many_at read count bytes`.
 use Rattle.std.proofs.Common.{◌≡◌, ℕ, suc, ◌-◌, ◌+◌, ◌≤◌, ◌<◌, List, [], ◌∷◌}
 use Rattle.std.proofs.Common.{◌++◌, Option, Some, None, refl, sym, ap, ◌∙◌, append_assoc, arith}

@@ -29,11 +29,11 @@ number_text k n = big_bytes k n
 abbrev pub number : ℕ → Form ℕ
 number k = record { text = number_text k; read = number_at k; Fits = λ n. n < 256 ^ k }
 
--- so many bytes
+-- a given number of bytes
 abbrev pub text_of : ℕ → Form (List ℕ)
 text_of n = record { text = λ text. text; read = text_at n; Fits = λ text. length text ≡ n }
 
--- so many values, one behind the other
+-- a given number of values, one after the other
 abbrev pub many_of : {A : Type 0} → ℕ → Form A → Form (List A)
 many_of n f = record {
   text = flat_map f.text;
@@ -45,7 +45,7 @@ many_of n f = record {
 abbrev pub all_left : Form (List ℕ)
 all_left = record { text = λ text. text; read = λ bytes. Some (bytes, []); Fits = λ text. Unit {0} }
 
--- ---- one behind the other
+-- ---- one after the other
 
 -- a value, and then another in a form that the first one tells
 abbrev pub led : {A B : Type 0} → Form A → (A → Form B) → Form (A × B)
@@ -142,7 +142,7 @@ in_record tag form = record {
   Fits = λ x. (tag x < 256) × ((length ((form (tag x)).text x) < 256 ^ 4) × (form (tag x)).Fits x);
 }
 
--- ---- lists behind their numbers
+-- ---- lists after their numbers
 
 -- the number of values in a byte, and the values
 abbrev pub counted : {A : Type 0} → Form A → Form (List A)

@@ -36,16 +36,16 @@ number_at k bytes = if nat_lt (length bytes) k then None
 abbrev pub text_at : ℕ → List ℕ → Option (List ℕ × List ℕ)
 text_at n bytes = if nat_lt (length bytes) n then None else Some (take n bytes, drop n bytes)
 
--- One given byte, and what is behind it.
+-- One given byte, and what is after it.
 abbrev pub expected_at : ℕ → List ℕ → Option (List ℕ)
 expected_at value bytes = byte_at bytes >>= λ b. (if b.0 == value then Some b.1 else None)
 
--- Given bytes, and what is behind them.
+-- Given bytes, and what is after them.
 abbrev pub literal_at : List ℕ → List ℕ → Option (List ℕ)
 literal_at front bytes = if starts_with ◌==◌ bytes front then Some (drop (length front) bytes)
     else None
 
--- So many values, one behind the other.
+-- A given number of values, one after the other.
 abbrev pub many_at : {A : Type 0} → (List ℕ → Option (A × List ℕ)) → ℕ → List ℕ
     → Option (List A × List ℕ)
 many_at read zero bytes = Some ([], bytes)
@@ -66,7 +66,7 @@ record_at bytes = do
 abbrev pub nothing_at : List ℕ → Option (Unit {0})
 nothing_at rest = if length rest == 0 then Some tt else None
 
--- A whole body: what is read, with nothing left behind it.
+-- A whole body: what is read, with nothing left after it.
 abbrev pub whole_of : {A : Type 0} → (List ℕ → Option (A × List ℕ)) → List ℕ → Option A
 whole_of read body = do
   value ← read body

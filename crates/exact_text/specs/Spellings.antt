@@ -6,6 +6,6 @@ use Rattle.byteorder.specs.Endian.{big_bytes}
 abbrev pub record_text : ℕ → List ℕ → List ℕ
 record_text tag body = tag ∷ (big_bytes 4 (length body) ++ body)
 
--- The new text is the old one with more behind it.
+-- The new text is the old one with more after it.
 abbrev pub Grows : List ℕ → List ℕ → Type 0
 Grows old new = (more : List ℕ) × (new ≡ old ++ more)

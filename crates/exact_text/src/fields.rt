@@ -53,7 +53,7 @@ impl Reads<u64> for NetworkOrder {
     }
 }
 
-/// The next `count` values, one behind the other, and the bytes after them. `NoReading` where one
+/// The next `count` values, one after the other, and the bytes after them. `NoReading` where one
 /// has none.
 pub fn many<R: Reads<T>, T: Drop>(
     alloc: Global,

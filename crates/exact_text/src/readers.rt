@@ -1,5 +1,5 @@
 //! Readers at the front of bytes. Only `text` takes memory: the clause `memory` of the others says
-//! that they never want it.
+//! that they take none.
 
 ghost use Rattle.std.specs.Prelude.{◌≡◌, IsErrOf};
 ghost use Rattle.exact_text.specs.Readings.{Gives, byte_at, number_at, text_at};

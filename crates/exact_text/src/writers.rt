@@ -1,4 +1,4 @@
-//! Writing behind what is there.
+//! Writing at the end of what is there.
 
 ghost use Rattle.std.specs.Prelude.{◌≡◌, ◌++◌, ◌<◌, ◌^◌, OnOk, length};
 ghost use Rattle.byteorder.specs.Endian.{big_bytes};
@@ -7,8 +7,8 @@ ghost use Rattle.exact_text.specs.Spellings.{Grows, record_text};
 use byteorder::{BigEndian, ByteOrder};
 use std::alloc::AllocError;
 
-/// Writes a number as 2 bytes, the highest first. Want of memory leaves what was there, and maybe
-/// more behind it.
+/// Writes a number as 2 bytes, the highest first. If memory runs out, what was there stays, and
+/// more may follow it.
 #[tactic(auto, using(crate::proofs::Growth::growth))]
 pub fn push16(out: &mut Vec<u8>, number: u16) -> Result<(), AllocError>
     ensures ok { OnOk result (out.new.items ≡ out.old.items ++ big_bytes 2 number) }
@@ -19,8 +19,8 @@ pub fn push16(out: &mut Vec<u8>, number: u16) -> Result<(), AllocError>
     out.extend_from_slice(&bytes)
 }
 
-/// Writes a number as 4 bytes, the highest first. Want of memory leaves what was there, and maybe
-/// more behind it.
+/// Writes a number as 4 bytes, the highest first. If memory runs out, what was there stays, and
+/// more may follow it.
 #[tactic(auto, using(crate::proofs::Growth::growth))]
 pub fn push32(out: &mut Vec<u8>, number: u32) -> Result<(), AllocError>
     ensures ok { OnOk result (out.new.items ≡ out.old.items ++ big_bytes 4 number) }
@@ -31,8 +31,8 @@ pub fn push32(out: &mut Vec<u8>, number: u32) -> Result<(), AllocError>
     out.extend_from_slice(&bytes)
 }
 
-/// Writes a number as 8 bytes, the highest first. Want of memory leaves what was there, and maybe
-/// more behind it.
+/// Writes a number as 8 bytes, the highest first. If memory runs out, what was there stays, and
+/// more may follow it.
 #[tactic(auto, using(crate::proofs::Growth::growth))]
 pub fn push64(out: &mut Vec<u8>, number: u64) -> Result<(), AllocError>
     ensures ok { OnOk result (out.new.items ≡ out.old.items ++ big_bytes 8 number) }
@@ -43,8 +43,8 @@ pub fn push64(out: &mut Vec<u8>, number: u64) -> Result<(), AllocError>
     out.extend_from_slice(&bytes)
 }
 
-/// Writes a record: its tag, the length of its body in 4 bytes, and the body. Want of memory leaves
-/// what was there, and maybe more behind it.
+/// Writes a record: its tag, the length of its body in 4 bytes, and the body. If memory runs out,
+/// what was there stays, and more may follow it.
 #[tactic(auto, using(crate::proofs::Growth::growth))]
 pub fn push_record(out: &mut Vec<u8>, tag: u8, body: &[u8]) -> Result<(), AllocError>
     requires { length body.now < 2 ^ 32 }

@@ -1,4 +1,4 @@
--- A fault, or want of memory. (This project's own.)
+-- A fault, or that memory ran out. (This project's own.)
 use Rattle.io_caps.specs.declared.memory.Or.{Or}
 use Rattle.io_caps.specs.declared.memory.Or.TheVariants.{Fault, NoMemory}
 

@@ -39,7 +39,7 @@ HasWholeBlocks i = (1 ≤ i.block_size) × (length i.labels % i.block_size ≡ 0
 abbrev pub FitsPacket : Rate → Output → Type 0
 FitsPacket r o = r.frames * length o.labels * bytes_per_sample o.width ≤ MOST_PAYLOAD
 
--- a choice of what may be routed, of so many inputs: no input, or one that is there
+-- a choice of what may be routed, of a given number of inputs: no input, or one that is there
 abbrev pub IsChoice : ℕ → Option ℕ → Type 0
 IsChoice inputs None = Unit {0}
 IsChoice inputs (Some input) = input < inputs

@@ -133,7 +133,7 @@ fn bad_blocks(inputs: &[Input]) -> Option<usize>
     inputs.iter().position(|input| !input.has_whole_blocks())
 }
 
-/// The first output that lists an input beyond so many.
+/// The first output that lists an input beyond a given number.
 fn bad_routable(inputs: usize, outputs: &[Output]) -> Option<usize>
     ensures { IsFirstFailing (λ o. IsRoutable inputs o.routable) outputs.now result }
 {
@@ -142,7 +142,7 @@ fn bad_routable(inputs: usize, outputs: &[Output]) -> Option<usize>
         .position(|output| !output.routable.names_inputs(inputs))
 }
 
-/// The first output whose samples of a tick don't fit into one packet.
+/// The first output whose samples of a tick do not fit into one packet.
 fn bad_packet(rate: Rate, outputs: &[Output]) -> Option<usize>
     ensures { IsFirstFailing (FitsPacket rate) outputs.now result }
 {

@@ -33,7 +33,7 @@ pub enum DeviceFault {
     /// Not one of the four rates, or not 1 to 240 frames a tick.
     #[error("the rate is not one of the four, or a tick has not 1 to 240 frames")]
     Rate,
-    /// The tick 2^23 past the first one doesn't start before 2^40 seconds.
+    /// The tick 2^23 past the first one does not start before 2^40 seconds.
     #[error("the first tick is too near the end of time")]
     Base,
     /// More than 64 ticks of hold.
@@ -63,14 +63,14 @@ pub enum DeviceFault {
     /// More than 128 channels of all inputs together.
     #[error("the inputs have more than 128 channels together")]
     ManyChannels,
-    /// The input of this number has a channel block size of 0, or one that doesn't divide its
+    /// The input of this number has a channel block size of 0, or one that does not divide its
     /// channels.
     #[error("input {0}: the channels are no whole blocks")]
     Block(u8),
     /// The output of this number has more than 1440 bytes of samples a tick.
     #[error("output {0}: the samples of a tick do not fit into one packet")]
     Payload(u8),
-    /// The output of this number lists an input that isn't there.
+    /// The output of this number lists an input that is not there.
     #[error("output {0}: an input that may be routed to it is not there")]
     Unknown(u8),
 }

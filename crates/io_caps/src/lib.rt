@@ -1,5 +1,5 @@
 //! The device: its rate, its inputs and its outputs, and the parts that every crate above stands
-//! on: want of memory, values that can be copied, and the one list type.
+//! on: `NoMemory`, values that can be copied, and the one list type.
 #![tactic(auto)]
 
 mod checks;

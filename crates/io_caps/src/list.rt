@@ -74,7 +74,7 @@ impl<T> ListOf<T> {
 }
 
 impl<T: Drop> ListOf<T> {
-    /// Adds an item at the end. Want of memory leaves the list as it was.
+    /// Adds an item at the end. If memory runs out, the list stays as it was.
     pub fn push(&mut self, item: T) -> Result<(), NoMemory>
         ensures ok { OnOk result (self.new ≡ self.old ++ item ∷ []) }
         ensures err { OnErr result (self.new ≡ self.old) }
@@ -83,8 +83,8 @@ impl<T: Drop> ListOf<T> {
         Ok(())
     }
 
-    /// Moves the items of another list to the end. Want of memory leaves the list as it was, and
-    /// lets the others go.
+    /// Moves the items of another list to the end. If memory runs out, the list stays as it was,
+    /// and the others are dropped.
     pub fn append(&mut self, more: ListOf<T>) -> Result<(), NoMemory>
         ensures ok { OnOk result (self.new ≡ self.old ++ more) }
         ensures err { OnErr result (self.new ≡ self.old) }

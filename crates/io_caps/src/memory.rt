@@ -1,4 +1,4 @@
-//! Want of memory, and values that can be copied.
+//! Running out of memory, and values that can be copied.
 
 ghost use Rattle.std.specs.Prelude.{◌≡◌, IfOk};
 
@@ -11,7 +11,7 @@ use thiserror::Error;
 #[error("memory ran out")]
 pub struct NoMemory;
 
-/// A fault, or want of memory.
+/// A fault, or that memory ran out.
 #[derive(Debug, Drop)]
 pub enum Or<F> {
     Fault(F),
@@ -53,7 +53,7 @@ impl<T: Drop> From<AllocFailed<T>> for NoMemory {
 
 /// Values of which an equal one can be made.
 pub trait TryCopy: Drop {
-    /// An equal value, or want of memory.
+    /// An equal value, or `NoMemory` if memory runs out.
     fn copy(&self) -> Result<Self, NoMemory>
         ensures { IfOk result (λ made. made ≡ self.now) };
 }

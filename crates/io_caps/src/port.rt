@@ -29,7 +29,7 @@ pub enum Routable {
 }
 
 impl Routable {
-    /// Whether each input that is listed is one of so many inputs.
+    /// Whether each input that is listed is one of a given number of inputs.
     pub(crate) fn names_inputs(&self, inputs: usize) -> bool
         ensures { IsTrue result ↔ IsRoutable inputs self.now }
     {

@@ -1,4 +1,5 @@
--- Items of lists: of two lists one behind the other, of a list with one item more, and of a list with one item put.
+-- Items of lists: of two lists one after the other, of a list with one item more, and of a list
+-- with one item put.
 use Rattle.std.proofs.Common.{◌≡◌, ◌≢◌, ℕ, zero, suc, ◌+◌, ◌<◌, ◌⊎◌, inl, inr}
 use Rattle.std.proofs.Common.{Bool, cond, List, [], ◌∷◌, ◌++◌, length, get_or, set, take, drop}
 use Rattle.std.proofs.Common.{Some, refl, sym, ap, subst, arith, length-append}
@@ -11,7 +12,7 @@ use Rattle.std.proofs.lemmas.List.Sums.{sum_by-append}
 use mathlib.Core.Option.{some, some-injective, some-ne-none}
 use lib.ListN.{get_elem?}
 
--- ---- two lists, one behind the other
+-- ---- two lists, one after the other
 
 -- what holds of all items holds of those of the first list
 pub All-left : {X : Type 0} (P : X → Type 0) (xs ys : List X) → All P (xs ++ ys) → All P xs
@@ -28,7 +29,7 @@ count_by-append p xs ys = sum_by-append (λ x. cond (p x) 1 0) xs ys
 
 -- ---- a part of a list
 
--- what holds at each place of a list, of the default past its end too, holds so behind its first items
+-- what holds at each place of a list, of the default past its end too, holds after its first items
 pub drop_each : {X : Type 0} (P : X → Type 0) (n : ℕ) (xs : List X) (d : X) → ((k : ℕ) → P (get_or xs k d)) → (k : ℕ)
     → P (get_or (drop n xs) k d)
 drop_each P n xs d each k = rw get_or-drop (each (n + k))

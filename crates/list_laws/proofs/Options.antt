@@ -19,7 +19,7 @@ pub option_or-Some : {X : Type 0} (a b : Option X) → IsSome a → option_or a 
 option_or-Some None b there = absurd (false≢true there)
 option_or-Some (Some x) b there = refl
 
--- where neither is there, the first isn't
+-- where neither is there, the first is not
 pub option_or-first : {X : Type 0} (a b : Option X) → option_or a b ≡ None → a ≡ None
 option_or-first None b none = refl
 option_or-first (Some x) b none = absurd cc

@@ -1,4 +1,4 @@
--- Parts of equal length, one behind the other.
+-- Parts of equal length, one after the other.
 use Rattle.std.proofs.Common.{◌<◌, ◌≤◌, ℕ, ◌+◌, ◌*◌, inl, inr, arith}
 use Rattle.std.proofs.lemmas.Bool.{cases_lt}
 use Rattle.std.proofs.Math.Nat.{add-mul, mul-le-mul_right}

@@ -9,7 +9,7 @@ use Rattle.std.proofs.lemmas.Grind.{flat_map-append}
 
 -- ---- a range in parts
 
--- the first n numbers from one on, and the m behind them
+-- the first n numbers from one on, and the m after them
 pub range_parts : (a n m : ℕ) → range_with_len a (n + m) ≡ range_with_len a n ++ range_with_len (a + n) m
 range_parts a zero m =
     let none : a + 0 ≡ a = omega arith in
@@ -49,7 +49,7 @@ pub map_same_below : {X : Type 0} (f g : ℕ → X) (n : ℕ) → ((k : ℕ) →
     → map f (range_with_len 0 n) ≡ map g (range_with_len 0 n)
 map_same_below f g n same = map_same f g 0 n (λ k from to. same k (omega (arith, to)))
 
--- the lists that they make, one behind the other
+-- the lists that they make, one after the other
 pub flat_map_same : {X : Type 0} (f g : ℕ → List X) (a n : ℕ) → ((k : ℕ) → a ≤ k → k < a + n → f k ≡ g k)
     → flat_map f (range_with_len a n) ≡ flat_map g (range_with_len a n)
 flat_map_same f g a zero same = refl

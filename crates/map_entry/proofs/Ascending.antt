@@ -22,7 +22,7 @@ AreAscending-push n xs y up below k d within = elim (cases_lt (k + 1) (length xs
       rw (get_or_append_left xs (y ∷ []) d k (omega arith), at, get_or-append_seam xs y [] d) less
 ]
 
--- a change of an output behind the last one
+-- a change of an output after the last one
 pub IsAction-push : (action : List OutputChangeParts) (change : OutputChangeParts) → IsAction action → IsOutputChange change
     → IfSome (slice_get action (length action - 1)) (λ last. last.output < change.output) → IsAction (action ++ change ∷ [])
 IsAction-push action change is one below = record {

@@ -47,7 +47,7 @@ with_changes-kept (c ∷ cs) row channel others =
     with_changes-kept cs _ channel (All-tail (λ (x : Change). x.channel ≢ channel) c cs others)
     ∙ set_other row c.channel channel c.cell (All-head (λ (x : Change). x.channel ≢ channel) c cs others)
 
--- the items behind the first ascend, and have greater numbers
+-- the items after the first ascend, and have greater numbers
 behind : {X : Type 0} (n : X → ℕ) (x : X) (xs : List X) → AreAscending n (x ∷ xs) → AreAscending n xs
 behind n x xs up k d within = let place : suc k + 1 ≡ suc (k + 1) = omega arith in rw place at (up (suc k) d (omega (arith, within)))
 

@@ -1,4 +1,4 @@
--- The lowest channel that doesn't pass: laws.
+-- The lowest channel that does not pass: laws.
 use Rattle.std.proofs.Common.{◌≡◌, ℕ, zero, suc, ◌+◌, ◌<◌, ◌≤◌, Bool, true, false}
 use Rattle.std.proofs.Common.{List, [], ◌∷◌, length, None, inl, inr, refl, sym, zero-add, arith}
 use Rattle.std.specs.Prelude.{not, find}
@@ -49,7 +49,7 @@ pub lowest_all : (passes : ℕ → Cell → Bool) (row : List Cell) → ((k : �
     → lowest_out passes row ≡ None
 lowest_all passes row each = all_from (λ c. not (passes c (cell_at row c))) 0 (length row) (λ k lt. rw (zero-add k, each k lt) refl)
 
--- where no channel names one that isn't there, each cell's channel is there, also past the end
+-- where no channel names one that is not there, each cell's channel is there, also past the end
 pub all_there : (inputs : List Input) (row : List Cell) → lowest_out (λ channel. is_channel_there inputs) row ≡ None → (k : ℕ)
     → IsChannelThere inputs (cell_at row k)
 all_there inputs row none k = elim (cases_lt k (length row)) [

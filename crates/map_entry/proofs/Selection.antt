@@ -39,7 +39,7 @@ selected-missed key (e ∷ es) o t missed =
     (row_where-None (rules key o t e) e (option_or-second (selected_by key es o t) (row_where (rules key o t e) e) missed))
     (selected-missed key es o t (option_or-first (selected_by key es o t) (row_where (rules key o t e) e) missed))
 
--- stays: entries that don't rule change nothing
+-- stays: entries that do not rule change nothing
 pub selected-stays : (key : Entry → ℕ) (a b : List Entry) (o t : ℕ) → All (λ e. rules key o t e ≡ false) b
     → selected_by key (a ++ b) o t ≡ selected_by key a o t
 selected-stays key a b o t none = rw (selected-append key a b o t, selected-miss key b o t none) refl
@@ -65,7 +65,7 @@ pub selected-last : (key : Entry → ℕ) (es : List Entry) (e : Entry) (o t : �
     → selected_by key (es ++ e ∷ []) o t ≡ option_or (row_where (rules key o t e) e) (selected_by key es o t)
 selected-last key es e o t = selected-append key es (e ∷ []) o t
 
--- hit: an entry that rules, with none behind it that does
+-- hit: an entry that rules, with none after it that does
 pub selected-hit : (key : Entry → ℕ) (a : List Entry) (e : Entry) (b : List Entry) (o t : ℕ) → rules key o t e ≡ true
     → All (λ x. rules key o t x ≡ false) b → selected_by key (a ++ e ∷ b) o t ≡ Some e.row
 selected-hit key a e b o t hit none =

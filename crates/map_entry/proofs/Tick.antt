@@ -6,7 +6,7 @@ use Rattle.std.proofs.lemmas.Grind.{div_ceil_times}
 use Rattle.list_laws.proofs.Parts.{part_most}
 use Rattle.map_entry.specs.Tick.{claim_tick, first_tick}
 
--- a claim drawn before so many are made lies in a tick below the first one not begun
+-- a claim drawn before that many are made lies in a tick below the first one not begun
 pub claim_below_first : (n a b : ℕ) → 0 < n → a + 1 ≤ b → a / n < div_ceil b n
 claim_below_first n a b some drawn =
     let over : b ≤ div_ceil b n * n = (div_ceil_times b n some).0 in

@@ -36,7 +36,7 @@ with_changes changes row =
 abbrev pub change_of : List OutputChangeParts → ℕ → Option OutputChangeParts
 change_of action output = find (λ c. eqb c.output output) action
 
--- the row with what an action changes of its output: the row itself, where the action doesn't name
+-- the row with what an action changes of its output: the row itself, where the action does not name
 -- the output
 abbrev pub applied_by : Option OutputChangeParts → List Cell → List Cell
 applied_by None row = row
@@ -46,11 +46,11 @@ applied_by (Some change) row = with_changes change.changes row
 abbrev pub applied : List Cell → List OutputChangeParts → ℕ → List Cell
 applied row action output = applied_by (change_of action output) row
 
--- each change names one of so many channels
+-- each change names one of a given number of channels
 abbrev pub NamesChannels : ℕ → OutputChangeParts → Type 0
 NamesChannels channels c = All (λ change. change.channel < channels) c.changes
 
--- what the action changes of the output names channels of a row of so many
+-- what the action changes of the output names channels of a row of a given length
 abbrev pub FitsRow : List OutputChangeParts → ℕ → ℕ → Type 0
 FitsRow action output channels = IfSome (change_of action output) (NamesChannels channels)
 
@@ -60,7 +60,7 @@ HasNamedCells action output made =
     IfSome (change_of action output)
     (λ c. All (λ change. slice_get made change.channel ≡ Some change.cell) c.changes)
 
--- and each channel that it doesn't name has the cell that it had
+-- and each channel that it does not name has the cell that it had
 abbrev pub KeepsOtherCells : List OutputChangeParts → ℕ → List Cell → List Cell → Type 0
 KeepsOtherCells action output row made =
     (channel : ℕ) → IfSome (change_of action output)

@@ -7,7 +7,7 @@ use Rattle.map_entry.specs.declared.cell.Cell.{Cell}
 use Rattle.map_entry.specs.declared.entry.Entry.{Entry}
 use Rattle.map_entry.specs.Row.{channels_of_output, IsRowOf}
 
--- the entry that an output has a row from a tick on, published after so many claims
+-- the entry that an output has a row from a tick on, published after a number of claims
 abbrev pub entry_of : ℕ → ℕ → List Cell → ℕ → Entry
 entry_of output tick row at = record { output = output; tick = tick; row = row; at = at }
 

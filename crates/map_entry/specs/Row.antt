@@ -92,7 +92,7 @@ named_below row input channel = count_by (names input) (take channel row)
 abbrev pub begins_piece : ℕ → List Cell → ℕ → ℕ → Bool
 begins_piece size row input channel = eqb (named_below row input channel % size) 0
 
--- so many channels of the output from one on
+-- a given number of channels of the output from one on
 abbrev pub piece_at : ℕ → List Cell → ℕ → List Cell
 piece_at size row channel = take size (drop channel row)
 
@@ -100,8 +100,8 @@ piece_at size row channel = take size (drop channel row)
 abbrev pub names_part : ℕ → ℕ → List Cell → ℕ → Bool
 names_part input from piece k = list_any (is_from input (from + k)) piece
 
--- whether a piece is whole: so many neighbouring channels name the input, and among them they name
--- each channel of the channel block whose first channel is `from`, so each just once
+-- whether a piece is whole: a given number of neighbouring channels name the input, and among them
+-- they name each channel of the channel block whose first channel is `from`, so each just once
 abbrev pub is_whole : ℕ → ℕ → ℕ → List Cell → Bool
 is_whole size input from piece =
     eqb (length piece) size
@@ -138,7 +138,7 @@ ordered_from inputs row channel (From input at) =
 
 -- ---- the check
 
--- the lowest channel that doesn't pass
+-- the lowest channel that does not pass
 abbrev pub lowest_out : (ℕ → Cell → Bool) → List Cell → Option ℕ
 lowest_out passes row =
     find (λ channel. not (passes channel (cell_at row channel))) (range_with_len 0 (length row))

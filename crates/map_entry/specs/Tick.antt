@@ -11,6 +11,6 @@ claim_tick base outputs claim = base + claim / outputs
 abbrev pub claim_output : ℕ → ℕ → ℕ
 claim_output outputs claim = claim % outputs
 
--- the first tick not begun after so many claims: these, divided by the outputs and rounded up
+-- the first tick not begun after a number of claims: these, divided by the outputs and rounded up
 abbrev pub first_tick : ℕ → ℕ → ℕ → ℕ
 first_tick base outputs claims = base + div_ceil claims outputs

@@ -39,7 +39,7 @@ impl Action {
         }
     }
 
-    /// The action of these changes, and `None` exactly where their outputs don't ascend.
+    /// The action of these changes, and `None` exactly where their outputs do not ascend.
     pub fn build(changes: ListOf<OutputChange>) -> Option<Action>
         ensures some { IfSome result (λ made. made ≡ changes) }
         ensures within { OnSome result (IsAction changes) }
@@ -52,8 +52,8 @@ impl Action {
         }
     }
 
-    /// Adds what is changed of an output behind the last one. Want of memory leaves the action as
-    /// it was.
+    /// Adds what is changed of an output after the last one. If memory runs out, the action stays
+    /// as it was.
     pub fn push(&mut self, change: OutputChange) -> Result<(), NoMemory>
         requires { IfSome (slice_get self.old (length self.old - 1))
             (λ last. last.output < change.output) }
@@ -66,8 +66,8 @@ impl Action {
         Ok(())
     }
 
-    /// Adds what is changed of an output, or answers `false` exactly where it doesn't come behind
-    /// the last one. Then, and for want of memory, the action stays as it was.
+    /// Adds what is changed of an output, or answers `false` exactly where it does not come after
+    /// the last one. Then, and if memory runs out, the action stays as it was.
     pub fn try_push(&mut self, change: OutputChange) -> Result<bool, NoMemory>
         ensures added { IfOk result (λ b. OnTrue b (self.new ≡ self.old ++ change ∷ [])) }
         ensures kept { IfOk result (λ b. OnFalse b (self.new ≡ self.old)) }
@@ -110,7 +110,7 @@ impl Action {
         self.changes.get(at)
     }
 
-    /// What is changed of an output, and `None` exactly where the action doesn't name it.
+    /// What is changed of an output, and `None` exactly where the action does not name it.
     pub fn change_of(&self, output: u8) -> Option<&OutputChange>
         ensures value { option_copied result ≡ change_of self.now output }
         ensures valid { IsAction self.now }
@@ -121,7 +121,7 @@ impl Action {
             .find(|change| change.output == output)
     }
 
-    /// Whether each channel of an output that is changed is below so many.
+    /// Whether each channel of an output that is changed is below a given number.
     pub fn fits(&self, output: u8, channels: usize) -> bool
         ensures { IsTrue result ↔ FitsRow self.now output channels }
     {

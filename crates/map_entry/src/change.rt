@@ -39,7 +39,7 @@ impl Model for OutputChange {
 }
 
 impl OutputChange {
-    /// The change of an output, and `None` exactly where the channels don't ascend.
+    /// The change of an output, and `None` exactly where the channels do not ascend.
     pub fn build(output: u8, changes: Changes) -> Option<OutputChange>
         ensures some { IfSome result (λ made. made ≡ output_change output changes) }
         ensures within { OnSome result (IsOutputChange (output_change output changes)) }
@@ -52,7 +52,7 @@ impl OutputChange {
         }
     }
 
-    /// Whether each channel is below so many.
+    /// Whether each channel is below a given number.
     pub fn names_below(&self, channels: usize) -> bool
         ensures { IsTrue result ↔ NamesChannels channels self.now }
     {

@@ -41,7 +41,7 @@ fn is_allowed(routable: &Routable, cell: Cell) -> bool
     }
 }
 
-/// The lowest channel that names an input that isn't there.
+/// The lowest channel that names an input that is not there.
 fn bad_input(device: &Device, row: &[Cell]) -> Option<usize>
     ensures value { result ≡ lowest_out (λ channel. is_input_there device.now.inputs) row.now }
     ensures within { IfSome result (λ k. k < length row.now) }
@@ -50,7 +50,7 @@ fn bad_input(device: &Device, row: &[Cell]) -> Option<usize>
     (0..row.len()).find(|channel| !cell_at(row, *channel).is_input_there(inputs))
 }
 
-/// The lowest channel that names a channel that isn't there.
+/// The lowest channel that names a channel that is not there.
 fn bad_channel(device: &Device, row: &[Cell]) -> Option<usize>
     ensures value { result ≡ lowest_out (λ channel. is_channel_there device.now.inputs) row.now }
     ensures within { IfSome result (λ k. k < length row.now) }

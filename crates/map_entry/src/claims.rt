@@ -17,7 +17,7 @@ pub fn claim_output(outputs: u8, claim: u64) -> u8
     (claim % outputs as u64) as u8
 }
 
-/// The tick of a claim: k div n ticks behind the base tick, for claim k with n outputs.
+/// The tick of a claim: k div n ticks after the base tick, for claim k with n outputs.
 pub fn claim_tick(base: u64, outputs: u8, claim: u64) -> u64
     requires some { 0 < outputs }
     requires sum { claim_tick base outputs claim < 2 ^ 64 }
@@ -26,8 +26,8 @@ pub fn claim_tick(base: u64, outputs: u8, claim: u64) -> u64
     base + claim / outputs as u64
 }
 
-/// The first tick of which no packet is claimed after so many claims: these, divided by the outputs
-/// and rounded up, behind the base tick.
+/// The first tick of which no packet is claimed after a number of claims: these, divided by the
+/// outputs and rounded up, after the base tick.
 pub fn first_tick(base: u64, outputs: u8, claims: u64) -> u64
     requires some { 0 < outputs }
     requires sum { first_tick base outputs claims < 2 ^ 64 }

@@ -6,7 +6,7 @@ ghost use Rattle.map_entry.specs.Entry.{due, entry_of, rules};
 use crate::Row;
 use io_caps::{NoMemory, TryCopy};
 
-/// That an output has a row from a tick on, published after so many claims.
+/// That an output has a row from a tick on, published after a number of claims.
 #[derive(Debug, Drop)]
 pub struct Entry {
     pub output: u8,

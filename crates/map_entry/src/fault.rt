@@ -7,13 +7,13 @@ use thiserror::Error;
 /// of the output that fails it.
 #[derive(Clone, Copy, Debug, PartialEq, Eq, Error)]
 pub enum RowFault {
-    /// The channel names an input that isn't there.
+    /// The channel names an input that is not there.
     #[error("channel {0} names an input that is not there")]
     Input(u8),
-    /// The channel names a channel of an input that isn't there.
+    /// The channel names a channel of an input that is not there.
     #[error("channel {0} names a channel that is not there")]
     Channel(u8),
-    /// The channel may not be routed so: what it names, or that it is unrouted, isn't on the
+    /// The channel may not be routed so: what it names, or that it is unrouted, is not on the
     /// output's routable list.
     #[error("channel {0} may not be routed so")]
     NotRoutable(u8),

@@ -30,7 +30,7 @@ fn named_below(row: &[Cell], input: u8, channel: usize) -> usize
         .count()
 }
 
-/// So many channels of the output from one on.
+/// A given number of channels of the output from one on.
 fn piece_at(size: u8, row: &[Cell], channel: usize) -> &[Cell]
     ensures { result.now ≡ piece_at size row.now channel }
 {
@@ -60,8 +60,8 @@ fn names_block(size: u8, input: u8, from: u8, piece: &[Cell]) -> bool
     (0..size as usize).all(|k| names_channel(piece, input, from as usize + k))
 }
 
-/// Whether a piece is whole: so many neighbouring channels, which all name the input and name each
-/// channel of the channel block.
+/// Whether a piece is whole: a given number of neighbouring channels, which all name the input and
+/// name each channel of the channel block.
 fn is_whole(size: u8, input: u8, from: u8, piece: &[Cell]) -> bool
     ensures { result ≡ is_whole size input from piece.now }
 {

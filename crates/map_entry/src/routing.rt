@@ -32,7 +32,7 @@ pub fn select_in(entries: &[Entry], output: u8, tick: u64) -> Option<&Row>
 }
 
 /// The row with what an action changes of its output: each channel that the action names has its
-/// cell, and any other keeps its own. An equal row where the action doesn't name the output.
+/// cell, and any other keeps its own. An equal row where the action does not name the output.
 pub fn apply(_alloc: Global, row: &Row, action: &Action, output: u8) -> Result<Row, NoMemory>
     requires { FitsRow action.now output (length row.now) }
     ensures value { IfOk result (λ made. made ≡ applied row.now action.now output) }

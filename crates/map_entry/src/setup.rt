@@ -31,7 +31,7 @@ impl Model for Setup {
 }
 
 impl Setup {
-    /// The device with these base rows. It is refused by a fault exactly where they don't fit the
+    /// The device with these base rows. It is refused by a fault exactly where they do not fit the
     /// device: `Count`, or `BaseRow` with the lowest output whose row fails the check, and the
     /// fault of [`check_row`]. A refusal drops both. No memory is taken.
     pub fn build(_alloc: Global, device: Device, rows: Rows) -> Result<Setup, Or<SetupFault>>

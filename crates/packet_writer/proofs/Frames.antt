@@ -8,7 +8,7 @@ use Rattle.io_caps.specs.declared.port.Input.{Input}
 use Rattle.map_entry.specs.Row.{channels_of}
 use Rattle.packet_writer.specs.Heard.{HasFrames, HaveFrames, TickBlocks}
 
--- an input that isn't there has no channels
+-- an input that is not there has no channels
 no_channels : (inputs : List Input) (input : ℕ) → length inputs ≤ input
     → channels_of inputs input ≡ 0
 no_channels inputs input past =

@@ -14,7 +14,7 @@ use Rattle.packet_writer.specs.Packet.{Blocks, claim_rows, flag_of, found_block,
 abbrev pub row_names : ℕ → List Cell → Bool
 row_names input row = list_any (names input) row
 
--- the row of one of so many frames names an input
+-- the row of one of a given number of frames names an input
 abbrev pub is_named : ℕ → RowsByFrame → ℕ → Bool
 is_named frames rows input =
     list_any (λ frame. row_names input (rows frame)) (range_with_len 0 frames)
@@ -55,7 +55,7 @@ Sights = ℕ → ℕ → Bool
 
 -- A flag in free form, by whether the packet names the input, its block is there, and it was seen:
 -- set only where the first two hold, and wherever a named block was seen. What was seen is there,
--- so the latter doesn't ask whether it is.
+-- so the latter does not ask whether it is.
 pub record IsFreeFlag (named there seen flag : Bool) : Type 0 where
   pub only : flag ≡ true → (named ≡ true) × (there ≡ true)
   pub wherever : named ≡ true → seen ≡ true → flag ≡ true

@@ -25,7 +25,7 @@ SeesMore before now = OfAgreed now before
 abbrev pub RowsByFrame : Type 0
 RowsByFrame = ℕ → List Cell
 
--- these have the same rows at so many frames
+-- these have the same rows at a given number of frames
 abbrev pub AreRows : ℕ → RowsByFrame → RowsByFrame → Type 0
 AreRows frames rows others = (frame : ℕ) → frame < frames → rows frame ≡ others frame
 
@@ -36,16 +36,16 @@ abbrev pub sample_in : Option (List ℤ) → ℕ → ℤ
 sample_in None place = pos 0
 sample_in (Some samples) place = slice_index_or samples place (pos 0)
 
--- so many frames of a channel, from a frame on
+-- a given number of frames of a channel, from a frame on
 abbrev pub channel_samples : Option (List ℤ) → ℕ → ℕ → ℕ → ℕ → List ℤ
 channel_samples block channels channel frame frames =
     map (λ f. sample_in block (f * channels + channel)) (range_with_len frame frames)
 
--- a block that is there has so many frames
+-- a block that is there has a given number of frames
 abbrev pub HasFrames : Option (List ℤ) → ℕ → ℕ → Type 0
 HasFrames block channels frames = IfSome block (λ samples. frames * channels ≤ length samples)
 
--- each input's block, where it is there, has so many frames
+-- each input's block, where it is there, has a given number of frames
 abbrev pub HaveFrames : List Input → TickBlocks → ℕ → Type 0
 HaveFrames inputs blocks frames =
     (input : ℕ) → HasFrames (blocks input) (channels_of inputs input) frames
@@ -67,7 +67,8 @@ heard inputs blocks frame Unrouted = pos 0
 heard inputs blocks frame (From input channel) =
     sample_in (blocks input) (frame * channels_of inputs input + channel)
 
--- the samples of so many frames from a frame on, each frame in channel order and by its own row
+-- the samples of a given number of frames from a frame on, each frame in channel order and by its
+-- own row
 abbrev pub samples_from : List Input → TickBlocks → RowsByFrame → ℕ → ℕ → List ℤ
 samples_from inputs blocks rows frame frames =
     flat_map (λ f. map (heard inputs blocks f) (rows f)) (range_with_len frame frames)

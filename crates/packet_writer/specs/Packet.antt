@@ -54,11 +54,11 @@ packet_length d output =
     option_map_or (λ o. 12 + d.rate.frames * length o.labels * bytes_per_sample o.width)
     (slice_get d.outputs output) 0
 
--- a row has a cell for each of so many channels, and these name channels that are there
+-- a row has a cell for each of a given number of channels, and these name channels that are there
 abbrev pub RowFits : List Input → ℕ → List Cell → Type 0
 RowFits inputs channels row = (length row ≡ channels) × All (IsChannelThere inputs) row
 
--- so do the rows of so many frames
+-- so do the rows of a given number of frames
 abbrev pub RowsFit : List Input → ℕ → ℕ → RowsByFrame → Type 0
 RowsFit inputs channels frames rows =
     (frame : ℕ) → frame < frames → RowFits inputs channels (rows frame)

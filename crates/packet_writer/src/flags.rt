@@ -23,7 +23,7 @@ pub trait Looks {
 
     ghost stays: { Self → Self → Type 0 };
 
-    /// Whether the block of an input is there, and `None` where that can't be told yet.
+    /// Whether the block of an input is there, and `None` where that cannot be told yet.
     fn look(&mut self, input: u8) -> Option<bool>
         ensures seen { IfSome result (λ there. sees self.new input there) }
         ensures untold { IfNone result (untold self.new input) }
@@ -73,7 +73,7 @@ fn mark_row(row: &[Cell], flags: &mut [bool])
     }
 }
 
-/// Sets the flag of each input that the rows of so many frames name, and no other.
+/// Sets the flag of each input that the rows of a given number of frames name, and no other.
 pub fn mark_named<R: FrameRows>(rows: &R, frames: u16, flags: &mut [bool])
     ensures len { length flags.new ≡ length flags.old }
     ensures each { (i : ℕ) → i < length flags.old
@@ -89,7 +89,7 @@ pub fn mark_named<R: FrameRows>(rows: &R, frames: u16, flags: &mut [bool])
 }
 
 /// Looks once at each input whose flag is set, in order, and leaves it set where the block is
-/// there. Answers the first input at which a look can't tell, if any; then the flags of the inputs
+/// there. Answers the first input at which a look cannot tell, if any; then the flags of the inputs
 /// before it are told, and the others have no meaning.
 pub fn look_at_marked<L: Looks>(looks: &mut L, flags: &mut [bool]) -> Option<u8>
     requires few { length flags.old ≤ MOST_INPUTS }

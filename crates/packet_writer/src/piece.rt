@@ -31,7 +31,7 @@ pub struct Piece<'a> {
 pub trait FrameRows {
     ghost row_of: { Self → ℕ → List Cell };
 
-    /// The piece that begins at one of so many frames.
+    /// The piece that begins at one of a given number of frames.
     fn piece(&self, frame: u16, frames: u16) -> Piece<'_>
         requires { frame < frames }
         ensures begins { result.frame ≡ frame }

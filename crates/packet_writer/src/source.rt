@@ -18,7 +18,7 @@ pub trait Samples {
 
     ghost stays: { Self → Self → Type 0 };
 
-    /// The samples of a channel of an input, which has so many channels, from a frame on; silence
+    /// The samples of a channel of an input, with its number of channels, from a frame on; silence
     /// where there is no block.
     fn copy_channel(&mut self, input: u8, channels: usize, channel: u8, frame: u16, out: &mut [i32])
         requires channel { channel < channels }
@@ -67,7 +67,7 @@ impl<'a> HeldBlocks<'a> {
     }
 }
 
-/// Whether the block of an input, where there is one, has so many frames.
+/// Whether the block of an input, where there is one, has a given number of frames.
 fn has_frames(blocks: &[Option<Block>], number: u8, input: &Input, frames: u16) -> bool
     requires { length input.now.labels ≤ MOST_CHANNELS }
     ensures { IsTrue result
@@ -114,8 +114,8 @@ pub(crate) fn block_at(blocks: &[Option<Block>], input: u8) -> Option<&[i32]>
     }
 }
 
-/// The samples of a channel of a block, which has so many, from a frame on: the body of a source in
-/// memory. Out of line, so that its loop keeps its registers.
+/// The samples of a channel of a block, which has a given number, from a frame on: the body of a
+/// source in memory. Out of line, so that its loop keeps its registers.
 #[inline(never)]
 pub fn copy_from_block(
     samples: &[i32],

@@ -103,14 +103,15 @@ fn block(alloc: Global, payload: &[u8], width: Width) -> Result<Block, NoMemory>
     Ok(made)
 }
 
-/// Whether a row has a cell for each of so many channels, and these name channels that are there.
+/// Whether a row has a cell for each of a given number of channels, and these name channels that
+/// are there.
 fn fits(inputs: &[Input], channels: usize, row: &[Cell]) -> bool
     ensures { IsTrue result ↔ RowFits inputs.now channels row.now }
 {
     row.len() == channels && row.iter().all(|cell| cell.is_channel_there(inputs))
 }
 
-/// Writes claim 0 by a row and by blocks; `None` where these don't fit.
+/// Writes claim 0 by a row and by blocks; `None` where these do not fit.
 fn write(setup: &Setup, row: &[Cell], blocks: &[Option<Block>], out: &mut [u8]) -> Option<()> {
     let device = &setup.device;
     let output = claim_output(device.outputs(), 0);

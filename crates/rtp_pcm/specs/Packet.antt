@@ -1,4 +1,4 @@
--- RTP packets as texts of bytes: their parts stand one behind the other.
+-- RTP packets as texts of bytes: their parts stand one after the other.
 use Rattle.std.specs.Prelude.{◌≡◌, ◌<◌, ℕ, ◌+◌, ◌*◌, ◌^◌, Bool, true}
 use Rattle.std.specs.Prelude.{false, List, [], ◌∷◌, ◌++◌, length}
 use Rattle.byteorder.specs.Endian.{big_bytes}
@@ -50,7 +50,7 @@ IsPaddingPart true part = (filler : List ℕ) × (length filler < 255)
     × (part ≡ filler ++ (length filler + 1) ∷ [])
 
 -- These bytes are a packet with this head, marker bit and payload: fixed part, CSRC part, extension
--- part, payload and padding part, one behind the other. (RFC 3550, sections 5.1 and 5.3.1)
+-- part, payload and padding part, one after the other. (RFC 3550, sections 5.1 and 5.3.1)
 pub record IsRtp (bytes : List ℕ) (head : Head) (marker : Bool) (payload : List ℕ) : Type 0 where
   pub padded : Bool
   pub extended : Bool

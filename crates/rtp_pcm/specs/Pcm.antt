@@ -35,7 +35,7 @@ abbrev pub kept_sample : Width → ℤ → ℤ
 kept_sample L16 z = int_div_euclid z (pos 256) *ℤ pos 256
 kept_sample L24 z = z
 
--- The payload of samples, frame by frame and each frame in channel order: their bytes, one behind
+-- The payload of samples, frame by frame and each frame in channel order: their bytes, one after
 -- the other. (RFC 3551, sections 4.1, 4.3 and 4.5.11; RFC 3190, section 4)
 unfoldable pub payload_of : Width → List ℤ → List ℕ
 payload_of width samples = flat_map (bytes_of_sample width) samples

@@ -32,13 +32,13 @@ head_in bytes = record {
   ssrc = big_number 4 (drop 8 bytes);
 }
 
--- ---- the parts behind it
+-- ---- the parts after it
 
 -- where the CSRC part ends
 abbrev pub csrc_end : List ℕ → ℕ
 csrc_end bytes = 12 + 4 * (slice_index bytes 0 % 16)
 
--- what stands behind the CSRC part
+-- what follows the CSRC part
 abbrev pub behind_csrcs : List ℕ → List ℕ
 behind_csrcs bytes = drop (csrc_end bytes) bytes
 
@@ -46,7 +46,7 @@ behind_csrcs bytes = drop (csrc_end bytes) bytes
 abbrev pub extension_length : List ℕ → ℕ
 extension_length text = 4 + 4 * big_number 2 (drop 2 text)
 
--- what stands behind the extension, where there is one: payload and padding
+-- what follows the extension, where there is one: payload and padding
 abbrev pub behind_extension : List ℕ → List ℕ
 behind_extension bytes = if is_extended bytes
     then drop (extension_length (behind_csrcs bytes)) (behind_csrcs bytes) else behind_csrcs bytes
@@ -59,7 +59,7 @@ last_byte text = slice_index text (length text - 1)
 abbrev pub before_padding : List ℕ → List ℕ
 before_padding text = take (length text - last_byte text) text
 
--- the payload: what stands behind the extension, without padding
+-- the payload: what follows the extension, without padding
 abbrev pub payload_in : List ℕ → List ℕ
 payload_in bytes = if is_padded bytes then before_padding (behind_extension bytes)
     else behind_extension bytes
@@ -94,7 +94,7 @@ abbrev pub HasAllParts : List ℕ → Type 0
 HasAllParts bytes = HasExtensionPart bytes
     × (IsTrue (is_padded bytes) → IsPadded (behind_extension bytes))
 
--- ---- the faults: what is there up to a part, and that the part isn't
+-- ---- the faults: what is there up to a part, and that the part is not
 
 -- the bytes end within the fixed part
 abbrev pub IsShort : List ℕ → Type 0

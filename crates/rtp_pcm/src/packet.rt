@@ -77,7 +77,7 @@ pub enum RtpFault {
     /// The bytes end within the extension part.
     #[error("the bytes end within the extension")]
     ExtensionCut,
-    /// The padding bit is set, and the last byte behind the head is missing, 0, or more than the
+    /// The padding bit is set, and the last byte after the head is missing, 0, or more than the
     /// bytes there.
     #[error("the count of padding is missing, 0, or more than the bytes there")]
     Padding,
@@ -91,7 +91,7 @@ fn has_bit(byte: u8, bit: u8) -> bool
     byte / bit % 2 == 1
 }
 
-/// What stands behind the first bytes, and `None` where there are not so many.
+/// What follows the first bytes, and `None` where there are fewer.
 fn behind(bytes: &[u8], len: usize) -> Option<&[u8]>
     ensures some { IfSome result
         (λ rest. (len ≤ length bytes.now) × (rest.now ≡ drop len bytes.now)) }
@@ -104,7 +104,7 @@ fn behind(bytes: &[u8], len: usize) -> Option<&[u8]>
     }
 }
 
-/// What stands behind an extension, and `None` where the bytes end within it.
+/// What follows an extension, and `None` where the bytes end within it.
 fn behind_words(bytes: &[u8]) -> Option<&[u8]>
     ensures some { IfSome result
         (λ rest. (extension_length bytes.now ≤ length bytes.now)
@@ -213,7 +213,7 @@ pub fn read_packet(bytes: &[u8]) -> Result<Packet<'_>, RtpFault>
 }
 
 /// Writes the fixed part of a packet (RFC 3550 section 5.1) into the first 12 bytes: version 2, no
-/// marker, no CSRCs, no extension and no padding. What stands behind them, the payload, stays.
+/// marker, no CSRCs, no extension and no padding. What follows them, the payload, stays.
 pub fn write_head(out: &mut [u8], head: &Head)
     requires room { 12 ≤ length out.old }
     requires seven_bits { head.now.payload_type < 128 }

@@ -14,7 +14,7 @@ use Rattle.std.proofs.lemmas.List.Quantifiers.{position-Some}
 use Rattle.std.proofs.lemmas.Str.Parse.{digit_from_value}
 use Rattle.tai_time.specs.Time.{TaiTime, IsTai, IsTaiText, HasColon, secs_part, nanos_part, nanos_of, time_of, tai_text, colon, is_colon}
 
--- The time of so many nanoseconds has that many.
+-- The time of a number of nanoseconds has that many.
 pub nanos_of-time_of : (nanos : ℕ) → nanos_of (time_of nanos) ≡ nanos
 nanos_of-time_of nanos = omega arith
 

@@ -27,7 +27,7 @@ IsTai time = (time.secs < secs_limit) × (time.nanos < second)
 abbrev pub nanos_of : TaiTime → ℕ
 nanos_of time = time.secs * second + time.nanos
 
--- The time of so many nanoseconds.
+-- The time of a given number of nanoseconds.
 abbrev pub time_of : ℕ → TaiTime
 time_of nanos = record { secs = nanos / second; nanos = nanos % second }
 

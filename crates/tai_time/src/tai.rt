@@ -171,7 +171,7 @@ impl Tai {
         }
     }
 
-    /// Appends the text without leading zeros. Want of memory leaves `out` as it was.
+    /// Appends the text without leading zeros. If memory runs out, `out` stays as it was.
     pub fn write(&self, out: &mut Vec<u8>) -> Result<(), NoMemory>
         ensures ok { OnOk result (out.new.items ≡ out.old.items ++ tai_text self.now) }
         ensures err { OnErr result (out.new.items ≡ out.old.items) }
@@ -191,7 +191,8 @@ impl Tai {
         u128::from(self.secs) * u128::from(NANOS_PER_SECOND) + u128::from(self.nanos)
     }
 
-    /// The time of so many nanoseconds, and `None` exactly where that has 2^40 seconds or more.
+    /// The time of a given number of nanoseconds, and `None` exactly where that has 2^40 seconds or
+    /// more.
     pub(crate) fn from_nanos(nanos: u128) -> Option<Tai>
         ensures time { IfSome result (λ time. (time ≡ time_of nanos) × IsTai time) }
         ensures none { IsNone result ↔ (nanos_limit ≤ nanos) }

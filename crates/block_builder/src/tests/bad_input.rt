@@ -1,4 +1,4 @@
-//! Packets of random bytes, and of random bits behind a head that reads: a builder beside the rule
+//! Packets of random bytes, and of random bits after a head that reads: a builder beside the rule
 //! itself.
 
 use super::by_hand::build;
@@ -40,7 +40,7 @@ impl Draw {
     }
 }
 
-/// So many random bytes.
+/// A given number of random bytes.
 fn noise(alloc: Global, draw: &mut Draw, len: u64) -> Result<Bytes, NoMemory> {
     let mut bytes = Bytes::new(alloc);
     for _ in 0..len {
@@ -49,7 +49,7 @@ fn noise(alloc: Global, draw: &mut Draw, len: u64) -> Result<Bytes, NoMemory> {
     Ok(bytes)
 }
 
-/// Random bytes behind a head of version 2, whose bits for CSRCs, extension and padding, payload
+/// Random bytes after a head of version 2, whose bits for CSRCs, extension and padding, payload
 /// type and timestamp are mostly such that the packet counts.
 fn nearly(alloc: Global, draw: &mut Draw) -> Result<Bytes, NoMemory> {
     let frames = draw.next() % 9;

@@ -68,7 +68,7 @@ fn drain(builder: &mut Builder) -> (u64, u64, i32) {
     (ticks, blocks, sample)
 }
 
-/// A packet of 2 frames with a payload type, cut to so many bytes.
+/// A packet of 2 frames with a payload type, cut to a given number of bytes.
 fn cut_packet(
     alloc: Global,
     timestamp: u64,

@@ -22,7 +22,7 @@ pub(crate) enum Verdict {
     Rule(u64),
 }
 
-/// The numbers of a row, read one behind the other.
+/// The numbers of a row, read one after the other.
 #[derive(Drop)]
 struct Row<'a> {
     numbers: &'a [u64],
@@ -128,7 +128,7 @@ fn answer_of(taken: Taken) -> u64 {
 /// Ticks that were handed out, with their blocks.
 pub(crate) type Handed = ListOf<(u64, Option<Block>)>;
 
-/// Hands out so many closed ticks, or those that there are.
+/// Hands out a given number of closed ticks, or those that there are.
 pub(crate) fn hand_out(
     builder: &mut Builder,
     most: u64,

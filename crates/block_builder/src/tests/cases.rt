@@ -1,5 +1,5 @@
-//! Cases of the rule of input blocks, one a row, written by `tools/block_cases.py` from the seeds
-//! in it, which says what the numbers are.
+//! Cases of the rule of input blocks, one a row, written by `tools/dev/block_cases.py` from the
+//! seeds in it, which says what the numbers are.
 
 pub(crate) const CASES: [&[u64]; 40] = [
     &[

@@ -118,7 +118,7 @@ fn push_frame(made: &mut Bytes, shape: Shape, mark: u64, frame: u64) -> Result<(
     Ok(())
 }
 
-/// A packet of so many frames of the input, whose samples tell the mark and the frame.
+/// A packet of a given number of frames of the input, whose samples tell the mark and the frame.
 pub(crate) fn packet(
     alloc: Global,
     shape: Shape,
