@@ -5,7 +5,7 @@ ghost use Rattle.std.specs.Prelude.{◌<◌, ◌^◌};
 use crate::{
     Activation, ClaimItem, ClaimItems, Desk, Given, History, Journal, JournalCall, Kept,
     PendingItem, PendingItems, PlainDesk, Refusal, Reply, ReplyItem, ReplyItems, Request, Said,
-    Stamp, When, in_order, merge, stage, unstage,
+    Stamp, When, in_order, stage, unstage,
 };
 use io_caps::{
     Bytes, Device, DeviceParts, Flags, Input, Inputs, Labels, NoMemory, Output, Outputs, Parent,
@@ -759,23 +759,13 @@ fn places(alloc: Global, of: &ReplyItems) -> Result<Vec<(u8, u64, u64)>, NoMemor
     Ok(made)
 }
 
-/// Replies are put in order by claims, calls and client, and more are put among them.
+/// Replies are put in order by claims, calls and client.
 #[test]
 fn replies_in_order(rt: HostRuntime) -> Result<(), Fail> {
     let alloc = rt.alloc();
     let came = [(5, 1, 2), (2, 1, 2), (2, 0, 1), (7, 2, 2)];
-    let mut made = in_order(replies(alloc, &came)?)?;
+    let made = in_order(replies(alloc, &came)?)?;
     let sorted = [(2, 0, 1), (2, 1, 2), (5, 1, 2), (7, 2, 2)];
     assert_eq!(rt; places(alloc, &made)?.as_slice(), sorted.as_slice());
-    made = merge(made, replies(alloc, &[(3, 1, 2), (0, 0, 0)])?)?;
-    let merged = [
-        (0, 0, 0),
-        (2, 0, 1),
-        (2, 1, 2),
-        (3, 1, 2),
-        (5, 1, 2),
-        (7, 2, 2),
-    ];
-    assert_eq!(rt; places(alloc, &made)?.as_slice(), merged.as_slice());
     Ok(())
 }
