@@ -1,6 +1,6 @@
 pub mod Blocks
 pub mod Taken
-pub mod Came
+pub mod ArrivalRef
 pub mod Window
 pub mod Building
 pub mod Seen

@@ -5,13 +5,13 @@ ghost use Rattle.std.specs.Prelude.{IsTrue, OnErr, OnOk, OnSome, length};
 ghost use Rattle.block_builder.specs.Blocks.{IsBlock, block_at, clock_piece, closed_of, intake_of};
 ghost use Rattle.block_builder.specs.Blocks.{pieces_by};
 ghost use Rattle.block_builder.specs.Building.{IsDrained, IsTakenBy, handed_on, with_arrival};
-ghost use Rattle.block_builder.specs.Came.{arrival_of};
+ghost use Rattle.block_builder.specs.ArrivalRef.{arrival_of};
 ghost use Rattle.block_builder.specs.declared.arrival.Arrival.TheVariants.{End, Mark, Packet};
 ghost use Rattle.io_caps.specs.declared.limits.TheConstants.{SESSION_TICKS};
 
 use crate::intake::Intake;
 use crate::packet::take_packet;
-use crate::past::{Came, Past};
+use crate::past::{ArrivalLog, ArrivalRef};
 use crate::slot::Slot;
 use crate::window::take_first;
 use crate::{Block, Taken};
@@ -30,7 +30,7 @@ pub struct Builder {
     alloc: Global,
     given: u64,
     closed: u64,
-    past: Past,
+    past: ArrivalLog,
 }
 
 impl Model for Builder {
@@ -61,7 +61,7 @@ impl Builder {
             alloc,
             given: 0,
             closed: 0,
-            past: Past::new(),
+            past: ArrivalLog::new(),
         })
     }
 
@@ -111,7 +111,7 @@ impl Builder {
             packet,
         )?;
         self.closed = self.closed.max(upto);
-        self.past = self.past.then(&Came::Packet(packet));
+        self.past = self.past.then(&ArrivalRef::Packet(packet));
         Ok(taken)
     }
 
@@ -120,18 +120,21 @@ impl Builder {
         ensures { self.new ≡ with_arrival self.old (Mark tick) }
     {
         let last = tick.saturating_sub(self.intake.base);
-        self.close(last, &Came::Mark(tick));
+        self.close(last, &ArrivalRef::Mark(tick));
     }
 
     /// The end of input closes all ticks.
     pub fn finish(&mut self)
         ensures { self.new ≡ with_arrival self.old End }
     {
-        self.close(self.intake.ticks + self.intake.hold as u64, &Came::End);
+        self.close(
+            self.intake.ticks + self.intake.hold as u64,
+            &ArrivalRef::End,
+        );
     }
 
     /// What brings no frame closes the ticks that lie more than the hold before a tick.
-    fn close(&mut self, last: u64, came: &Came<'_>)
+    fn close(&mut self, last: u64, came: &ArrivalRef<'_>)
         requires { pieces_by self.old.intake (arrival_of came.now) ≡ clock_piece last ∷ [] }
         ensures { self.new ≡ with_arrival self.old (arrival_of came.now) }
     {

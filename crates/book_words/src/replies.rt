@@ -15,14 +15,21 @@ pub struct Activation {
     pub when: When,
     /// The tick from which it counts.
     pub tick: u64,
+    /// The frame of the tick from which on it counts.
+    pub offset: u16,
 }
 
 impl Activation {
     /// The activation of these parts.
-    pub fn new(id: u64, when: When, tick: u64) -> Activation
-        ensures { result ≡ activation id when tick }
+    pub fn new(id: u64, when: When, tick: u64, offset: u16) -> Activation
+        ensures { result ≡ activation id when tick offset }
     {
-        Activation { id, when, tick }
+        Activation {
+            id,
+            when,
+            tick,
+            offset,
+        }
     }
 }
 
@@ -41,18 +48,21 @@ pub struct PendingItem {
     pub when: When,
     /// The tick from which it counts.
     pub tick: u64,
+    /// The frame of the tick from which on it counts.
+    pub offset: u16,
     pub action: Action,
 }
 
 impl PendingItem {
     /// The pending activation of these parts, which takes no memory.
-    pub fn new(id: u64, when: When, tick: u64, action: Action) -> PendingItem
-        ensures { result ≡ pending_item id when tick action }
+    pub fn new(id: u64, when: When, tick: u64, offset: u16, action: Action) -> PendingItem
+        ensures { result ≡ pending_item id when tick offset action }
     {
         PendingItem {
             id,
             when,
             tick,
+            offset,
             action,
         }
     }
@@ -79,17 +89,15 @@ pub enum Refusal {
     Time,
     /// No pending activation has this id.
     NotPending { id: u64 },
-    /// There is no place left for its entries.
-    Full,
 }
 
 /// What the book answers.
 #[derive(Debug, Drop)]
 pub enum Reply {
-    /// An activation at once was accepted: its id, and the tick from which it counts.
-    Activated { id: u64, tick: u64 },
+    /// An activation at once was accepted: its id, and the frame of a tick from which it counts.
+    Activated { id: u64, tick: u64, offset: u16 },
     /// A scheduled activation was accepted, also one whose time had passed.
-    Scheduled { id: u64, tick: u64 },
+    Scheduled { id: u64, tick: u64, offset: u16 },
     /// A pending activation was taken back.
     Deleted { id: u64 },
     Active(ActiveView),
@@ -118,6 +126,7 @@ impl TryCopy for PendingItem {
             id: self.id,
             when: self.when,
             tick: self.tick,
+            offset: self.offset,
             action: self.action.copy()?,
         })
     }
@@ -132,13 +141,15 @@ impl TryCopy for Refusal {
 impl TryCopy for Reply {
     fn copy(&self) -> Result<Reply, NoMemory> {
         match self {
-            Reply::Activated { id, tick } => Ok(Reply::Activated {
+            Reply::Activated { id, tick, offset } => Ok(Reply::Activated {
                 id: *id,
                 tick: *tick,
+                offset: *offset,
             }),
-            Reply::Scheduled { id, tick } => Ok(Reply::Scheduled {
+            Reply::Scheduled { id, tick, offset } => Ok(Reply::Scheduled {
                 id: *id,
                 tick: *tick,
+                offset: *offset,
             }),
             Reply::Deleted { id } => Ok(Reply::Deleted { id: *id }),
             Reply::Active(view) => Ok(Reply::Active(view.copy()?)),

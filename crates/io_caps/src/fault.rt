@@ -45,8 +45,8 @@ pub enum DeviceFault {
     /// More than 16 inputs.
     #[error("there are more than 16 inputs")]
     ManyInputs,
-    /// More than 32 outputs.
-    #[error("there are more than 32 outputs")]
+    /// More than 64 outputs.
+    #[error("there are more than 64 outputs")]
     ManyOutputs,
     /// An id that is not 1 to 32 ASCII letters, digits, `-` and `_`.
     #[error("{0}: the id is not 1 to 32 letters, digits, - and _")]

@@ -13,9 +13,9 @@ pub const MOST_INPUTS: usize = 16;
 const _: () = prove!(MOST_INPUTS == 16);
 
 /// The most outputs of a device.
-pub const MOST_OUTPUTS: usize = 32;
+pub const MOST_OUTPUTS: usize = 64;
 
-const _: () = prove!(MOST_OUTPUTS == 32);
+const _: () = prove!(MOST_OUTPUTS == 64);
 
 /// The most bytes of the id of an input or output.
 pub const MOST_ID_BYTES: usize = 32;
@@ -63,14 +63,14 @@ pub const CLIENTS: u8 = 16;
 const _: () = prove!(CLIENTS == 16);
 
 /// The most places of a claim table: each holds a map entry.
-pub const PLACES: u32 = 512;
+pub const PLACES: u32 = 1024;
 
-const _: () = prove!(PLACES == 512);
+const _: () = prove!(PLACES == 1024);
 
 /// The most ticks of a capture's claims.
-pub const CAPTURE_TICKS: u64 = 256;
+pub const CAPTURE_TICKS: u64 = 4096;
 
-const _: () = prove!(CAPTURE_TICKS == 256);
+const _: () = prove!(CAPTURE_TICKS == 4096);
 
 /// The most ticks of a lap, which is as long as one claim table serves.
 pub const LAP_TICKS: u64 = 256;
@@ -83,9 +83,9 @@ pub const MOST_WORKERS: u8 = 32;
 const _: () = prove!(MOST_WORKERS == 32);
 
 /// The most map entries with which a claim table begins.
-pub const MOST_BASE_ENTRIES: u32 = 96;
+pub const MOST_BASE_ENTRIES: u32 = 192;
 
-const _: () = prove!(MOST_BASE_ENTRIES == 96);
+const _: () = prove!(MOST_BASE_ENTRIES == 192);
 
 /// The most ticks of a session.
 pub const SESSION_TICKS: u64 = 1 << 22;

@@ -162,7 +162,7 @@ fn refused_counts(rt: HostRuntime) -> Result<(), Fail> {
         Some(DeviceFault::ManyInputs)
     );
     assert_eq!(rt;
-        ports_fault(alloc, &[A], &[X; 33])?,
+        ports_fault(alloc, &[A], &[X; 65])?,
         Some(DeviceFault::ManyOutputs)
     );
     let many = [("a", 64, 96, 1), ("b", 64, 96, 1), ("c", 1, 96, 1)];

@@ -10,6 +10,7 @@ use Rattle.map_entry.specs.declared.cell.Cell.{Cell}
 use Rattle.map_entry.specs.declared.entry.Entry.{Entry}
 use Rattle.map_entry.specs.Entry.{due, rules, row_where, selected_by, selected, IsEntryOk, HasRowsFrom}
 use Rattle.map_entry.specs.Row.{IsRowOf, channels_of_output}
+use Rattle.std.proofs.lemmas.List.Elements.{All-weaker}
 use Rattle.map_entry.proofs.Selection.{selected-append}
 
 -- ---- what the selected row has
@@ -35,9 +36,11 @@ pub selected_has : (P : ℕ → List Cell → Type 0) (key : Entry → ℕ) (es 
 selected_has P key es output at row all is = picked_by P key es output at row (recursion_from_All (λ (e : Entry). P e.output e.row) es all) is
 
 -- the selected row is one of the output
-pub selected_row : (d : DeviceParts) (es : List Entry) (output tick : ℕ) (row : List Cell) → All (IsEntryOk d) es → selected es output tick ≡ Some row
+pub selected_row : (d : DeviceParts) (es : List Entry) (output key : ℕ) (row : List Cell) → All (IsEntryOk d) es → selected es output key ≡ Some row
     → IsRowOf d output row
-selected_row d es output tick row all is = selected_has (IsRowOf d) due es output tick row all is
+selected_row d es output key row all is =
+    selected_has (IsRowOf d) due es output key row
+    (All-weaker (IsEntryOk d) (λ (e : Entry). IsRowOf d e.output e.row) (λ (e : Entry) (ok : IsEntryOk d e). ok.row) es all) is
 
 -- ---- more entries
 

@@ -2,6 +2,7 @@ pub mod Ascending
 pub mod Changes
 pub mod Channels
 pub mod Entries
+pub mod Frames
 pub mod Lowest
 pub mod Rows
 pub mod Selection

@@ -6,18 +6,25 @@ use Rattle.io_caps.specs.declared.port.Output.{Output}
 use Rattle.io_caps.specs.declared.device.DeviceParts.{DeviceParts}
 use Rattle.map_entry.specs.declared.cell.Cell.{Cell}
 use Rattle.map_entry.specs.declared.fault.RowFault.{RowFault}
+use Rattle.map_entry.specs.declared.grain.Grain.{Grain}
+use Rattle.map_entry.specs.declared.grain.Grain.TheVariants.{Tick}
 use Rattle.map_entry.specs.declared.fault.SetupFault.{SetupFault}
 use Rattle.map_entry.specs.declared.fault.SetupFault.TheVariants.{Count, BaseRow}
 use Rattle.map_entry.specs.Row.{row_fault, IsRowOk}
 
--- a device with its base rows
+-- a device with its base rows, and how exactly activations at a time count
 pub record SetupParts : Type 0 where
   pub device : DeviceParts
   pub rows : List (List Cell)
+  pub grain : Grain
 
--- the setup of a device and its base rows
+-- the setup of a device and its base rows, with this grain
+abbrev pub setup_with : DeviceParts → List (List Cell) → Grain → SetupParts
+setup_with device rows grain = record { device = device; rows = rows; grain = grain }
+
+-- the setup of a device and its base rows, whose activations count from the beginnings of ticks
 abbrev pub setup_of : DeviceParts → List (List Cell) → SetupParts
-setup_of device rows = record { device = device; rows = rows }
+setup_of device rows = setup_with device rows Tick
 
 -- the row has a cell for each channel
 abbrev pub HasCells : Output → List Cell → Type 0

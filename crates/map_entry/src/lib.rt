@@ -1,4 +1,4 @@
-//! What is routed to the outputs: cells and rows, entries and which of them rules a tick, actions,
+//! What is routed to the outputs: cells and rows, entries and which of them rules a frame, actions,
 //! and the setup of a device with its base rows.
 #![tactic(auto)]
 
@@ -9,6 +9,7 @@ mod check;
 mod claims;
 mod entry;
 mod fault;
+mod grain;
 mod pieces;
 mod routing;
 mod setup;
@@ -18,10 +19,11 @@ pub use cell::Cell;
 pub use change::{Change, OutputChange};
 pub use check::check_row;
 pub use claims::{CLAIMS_LIMIT, claim_output, claim_tick, first_tick};
-pub use entry::Entry;
+pub use entry::{Entry, has_come};
 pub use fault::{RowFault, SetupFault};
+pub use grain::Grain;
 use io_caps::ListOf;
-pub use routing::{apply, select, select_in};
+pub use routing::{apply, frame_at, select, select_in, select_piece};
 pub use setup::Setup;
 
 /// What an output is routed from: a cell for each channel.

@@ -7,7 +7,7 @@ ghost use Rattle.map_entry.specs.Setup.{IsSetup, IsBrokenBy, AreRowsOk};
 ghost use Rattle.map_entry.specs.Setup.{HasCells, HasRowFault, setup_of};
 ghost use Rattle.io_caps.specs.Memory.{IsFaultAnd};
 
-use crate::{Row, RowFault, Rows, SetupFault, check_row};
+use crate::{Grain, Row, RowFault, Rows, SetupFault, check_row};
 use io_caps::{Device, NoMemory, Or, Output, TryCopy};
 use std::alloc::Global;
 use std::marker::Model;
@@ -18,20 +18,22 @@ use std::marker::Model;
 pub struct Setup {
     pub device: Device,
     pub rows: Rows,
+    pub grain: Grain,
 }
 
 impl Model for Setup {
-    ghost use Rattle.map_entry.specs.Setup.{SetupParts, setup_of, IsSetup};
+    ghost use Rattle.map_entry.specs.Setup.{SetupParts, setup_with, IsSetup};
 
     ghost Value = { SetupParts };
 
-    ghost view = { λ s. setup_of s.device s.rows };
+    ghost view = { λ s. setup_with s.device s.rows s.grain };
 
-    ghost invariant = { λ s. IsSetup (setup_of s.device s.rows) };
+    ghost invariant = { λ s. IsSetup (setup_with s.device s.rows s.grain) };
 }
 
 impl Setup {
-    /// The device with these base rows. It is refused by a fault exactly where they do not fit the
+    /// The device with these base rows, whose activations count from ticks. It is refused by a
+    /// fault exactly where they do not fit the
     /// device: `Count`, or `BaseRow` with the lowest output whose row fails the check, and the
     /// fault of [`check_row`]. A refusal drops both. No memory is taken.
     pub fn build(_alloc: Global, device: Device, rows: Rows) -> Result<Setup, Or<SetupFault>>
@@ -44,7 +46,11 @@ impl Setup {
             return Err(Or::Fault(SetupFault::Count));
         }
         match check_rows(&device, &rows) {
-            Ok(()) => Ok(Setup { device, rows }),
+            Ok(()) => Ok(Setup {
+                device,
+                rows,
+                grain: Grain::Tick,
+            }),
             Err((output, fault)) => Err(Or::Fault(SetupFault::BaseRow { output, fault })),
         }
     }
@@ -91,6 +97,7 @@ impl TryCopy for Setup {
         Ok(Setup {
             device: self.device.copy()?,
             rows: self.rows.copy()?,
+            grain: self.grain,
         })
     }
 }

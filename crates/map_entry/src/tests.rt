@@ -316,13 +316,19 @@ const LEFT: Place = (0, 0);
 
 const RIGHT: Place = (0, 1);
 
-/// The cell of an output that has these entries, each from its tick on.
-fn selected(alloc: Global, output: u8, tick: u64) -> Result<Option<Cell>, NoMemory> {
+/// Entries of an output, each from its frame of a tick on.
+fn entries(alloc: Global) -> Result<Entries, NoMemory> {
     let mut entries = Entries::new(alloc);
-    for (from, place) in [(0, N), (1000, LEFT), (1000, N), (500, RIGHT)] {
-        entries.push(Entry::new(3, from, cells(alloc, &[place])?, 0))?;
+    for (tick, offset, place) in [(0, 0, N), (500, 0, LEFT), (500, 0, N), (250, 1, RIGHT)] {
+        entries.push(Entry::new(3, tick, offset, cells(alloc, &[place])?, 0))?;
     }
-    Ok(select(&entries.copy()?, output, tick).and_then(|row| row.get(0).copied()))
+    Ok(entries)
+}
+
+/// The cell of an output that has these entries, at a position where a tick has two frames.
+fn selected(alloc: Global, output: u8, position: u64) -> Result<Option<Cell>, NoMemory> {
+    let entries = entries(alloc)?;
+    Ok(select(&entries.copy()?, 2, output, position).and_then(|row| row.get(0).copied()))
 }
 
 #[test]
@@ -331,14 +337,32 @@ fn schedule_delete_schedule(rt: HostRuntime) -> Result<(), Fail> {
         input: 0,
         channel: 1,
     };
-    for (output, tick, found) in [
+    for (output, position, found) in [
         (3, 0, Some(Cell::Unrouted)),
-        (3, 499, Some(Cell::Unrouted)),
-        (3, 500, Some(right)),
+        (3, 500, Some(Cell::Unrouted)),
+        (3, 501, Some(right)),
         (3, 1000, Some(right)),
         (2, 1000, None),
     ] {
-        assert_eq!(rt; selected(rt.alloc(), output, tick)?, found, "at {tick}");
+        assert_eq!(rt;
+            selected(rt.alloc(), output, position)?,
+            found,
+            "at {position}"
+        );
+    }
+    Ok(())
+}
+
+#[test]
+fn pieces_of_ticks(rt: HostRuntime) -> Result<(), Fail> {
+    let entries = entries(rt.alloc())?;
+    for (tick, frame, upto) in [(249, 0, 2), (250, 0, 1), (250, 1, 2), (251, 0, 2)] {
+        let piece = select_piece(entries.as_slice(), 3, tick, frame, 2);
+        assert_eq!(rt;
+            piece.map(|(_row, end)| end),
+            Some(upto),
+            "at {tick} {frame}"
+        );
     }
     Ok(())
 }

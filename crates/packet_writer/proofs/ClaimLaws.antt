@@ -9,7 +9,9 @@ use Rattle.std.specs.Option.{unwrap_or}
 use Rattle.map_entry.specs.declared.cell.Cell.{Cell}
 use Rattle.map_entry.specs.declared.entry.Entry.{Entry}
 use Rattle.map_entry.specs.Entry.{due, rules}
-use Rattle.map_entry.proofs.Selection.{selected-stays, selected-later}
+use Rattle.map_entry.proofs.Selection.{selected-stays, selected-behind}
+use Rattle.map_entry.specs.Tick.{frame_key}
+use Rattle.std.proofs.Common.{◌^◌}
 use Rattle.map_entry.specs.Setup.{SetupParts}
 use Rattle.packet_writer.specs.Flags.{AreClosed, AreFree, IsFound, IsFreeFlag, Sights, closed_flags}
 use Rattle.packet_writer.specs.Flags.{is_there, names_by}
@@ -43,29 +45,33 @@ packet_by-same s entries more blocks others flags found k rows same there =
 
 -- ---- entries of later ticks
 
--- entries of which none rules the packet leave its rows
-pub claim_rows-stays : (s : SetupParts) (entries more : List Entry) (k : ℕ)
-    → All (λ e. rules due (output_of_claim s k) (tick_of_claim s k) e ≡ false) more
-    → (frame : ℕ) → claim_rows s (entries ++ more) k frame ≡ claim_rows s entries k frame
-claim_rows-stays s entries more k none frame =
+-- entries of which none rules a frame of the packet leave its row
+pub claim_rows-stays : (s : SetupParts) (entries more : List Entry) (k frame : ℕ)
+    → All (λ e. rules due (output_of_claim s k) (frame_key (tick_of_claim s k) frame) e ≡ false)
+    more
+    → claim_rows s (entries ++ more) k frame ≡ claim_rows s entries k frame
+claim_rows-stays s entries more k frame none =
     ap (λ (row : Option (List Cell)). unwrap_or row [])
-    (selected-stays due entries more (output_of_claim s k) (tick_of_claim s k) none)
+    (selected-stays due entries more (output_of_claim s k) (frame_key (tick_of_claim s k) frame)
+    none)
 
 -- so do entries of later ticks
 pub claim_rows-later : (s : SetupParts) (entries more : List Entry) (k : ℕ)
-    → All (λ e. tick_of_claim s k < due e) more
-    → (frame : ℕ) → claim_rows s (entries ++ more) k frame ≡ claim_rows s entries k frame
-claim_rows-later s entries more k later frame =
+    → All (λ e. tick_of_claim s k < e.tick) more
+    → (frame : ℕ) → frame < 2 ^ 16
+    → claim_rows s (entries ++ more) k frame ≡ claim_rows s entries k frame
+claim_rows-later s entries more k later frame few =
     ap (λ (row : Option (List Cell)). unwrap_or row [])
-    (selected-later due entries more (output_of_claim s k) (tick_of_claim s k) later)
+    (selected-behind entries more (output_of_claim s k) (tick_of_claim s k) frame few later)
 
 -- and its packet
 pub packet_by-later : (s : SetupParts) (entries more : List Entry) (blocks : Blocks)
-    (flags : List Bool) (k : ℕ) → All (λ e. tick_of_claim s k < due e) more
+    (flags : List Bool) (k : ℕ) → s.device.rate.frames ≤ 2 ^ 16
+    → All (λ e. tick_of_claim s k < e.tick) more
     → packet_by s (entries ++ more) blocks flags k ≡ packet_by s entries blocks flags k
-packet_by-later s entries more blocks flags k later =
+packet_by-later s entries more blocks flags k few later =
     packet_by-same s (entries ++ more) entries blocks blocks flags flags k
-    (λ f lt. claim_rows-later s entries more k later f) (λ input named. refl)
+    (λ f lt. claim_rows-later s entries more k later f (omega (arith, lt, few))) (λ input named. refl)
     (λ input named set. refl)
 
 -- ---- flags

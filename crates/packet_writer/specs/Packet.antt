@@ -13,7 +13,7 @@ use Rattle.map_entry.specs.declared.entry.Entry.{Entry}
 use Rattle.map_entry.specs.Entry.{selected}
 use Rattle.map_entry.specs.Setup.{SetupParts}
 use Rattle.map_entry.specs.Row.{IsChannelThere, channels_of_output}
-use Rattle.map_entry.specs.Tick.{claim_output, claim_tick}
+use Rattle.map_entry.specs.Tick.{claim_output, claim_tick, frame_key}
 use Rattle.rtp_pcm.specs.declared.packet.Head.{Head}
 use Rattle.rtp_pcm.specs.Pcm.{payload_of}
 use Rattle.rtp_pcm.specs.Packet.{rtp_packet}
@@ -77,9 +77,9 @@ output_of_claim s k = claim_output (length s.device.outputs) k
 abbrev pub tick_of_claim : SetupParts → ℕ → ℕ
 tick_of_claim s k = claim_tick s.device.base (length s.device.outputs) k
 
--- the rows that rule an output's packet of a tick: today the same row at all its frames
+-- the rows that rule an output's packet of a tick, each at its frame
 abbrev pub row_at : List Entry → ℕ → ℕ → RowsByFrame
-row_at entries output tick = λ frame. unwrap_or (selected entries output tick) []
+row_at entries output tick = λ frame. unwrap_or (selected entries output (frame_key tick frame)) []
 
 -- the flag of an input; past the end none is set
 abbrev pub flag_of : List Bool → ℕ → Bool

@@ -3,11 +3,13 @@
 #![tactic(auto)]
 
 mod column;
+mod entries;
 mod flags;
 mod packet;
 mod piece;
 mod source;
 
+pub use entries::EntryRows;
 pub use flags::{Looks, look_at_marked, mark_named};
 pub use packet::{packet_len, write_claim, write_packet};
 pub use piece::{FrameRows, OneRow, Piece, write_piece};

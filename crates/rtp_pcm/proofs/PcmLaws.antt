@@ -29,7 +29,8 @@ scaled : (z : ℤ) → IsSample z → (negsuc 32767 ≤ℤ int_div_euclid z (pos
 scaled (pos n) h = (grind arith, grind arith)
 scaled (negsuc n) h = (grind arith, grind arith)
 
--- A sample that was put is got again, whatever follows it: itself in L24, and in L16 the multiple of 256 at or below it.
+-- A sample that was put is got again, whatever follows it: itself in L24, and in L16 the multiple
+-- of 256 at or below it.
 pub sample_again : (width : Width) (z : ℤ) (rest : List ℕ) → IsSample z → sample_of width (bytes_of_sample width z ++ rest) ≡ kept_sample width z
 sample_again L16 z rest h =
     let s = scaled z h in

@@ -6,7 +6,9 @@ use Rattle.io_caps.specs.Rate.{IsRate}
 use Rattle.tai_time.specs.Time.{TaiTime, IsTai, IsTaiText, nanos_of, time_of, HasColon, HasSecs, secs_part, nanos_part}
 use Rattle.tai_time.proofs.TimeLaws.{IsTaiText-says, says-IsTaiText, same_time, nanos_of-time_of}
 use Rattle.tai_time.specs.Tick.{tick_start, tick_up, tick_of, IsTickUp, IsTickOf}
+use Rattle.tai_time.specs.Tick.{frame_start, frame_up, IsFrameUp}
 use Rattle.tai_time.proofs.TickLaws.{tick_up-least, tick_of-greatest, tick_up-start}
+use Rattle.tai_time.proofs.TickLaws.{frame_up-least, frame_up-start}
 
 pub least_at : (rate : Rate) (nanos tick : ℕ) → IsRate rate → tick ≡ tick_up rate nanos → IsTickUp rate nanos tick
 least_at rate nanos tick h e = subst (IsTickUp rate nanos) (sym e) (tick_up-least rate nanos h)
@@ -19,6 +21,15 @@ pub again_at : (rate : Rate) (tick : ℕ) (r : Option TaiTime) → IsRate rate �
 again_at rate tick None h e = tt
 again_at rate tick (Some time) h e =
     ap (λ (t : TaiTime). tick_up rate (nanos_of t)) e.0 ∙ ap (tick_up rate) (nanos_of-time_of (tick_start rate tick)) ∙ tick_up-start rate tick h
+
+pub least_frame_at : (rate : Rate) (nanos frame : ℕ) → IsRate rate → frame ≡ frame_up rate nanos → IsFrameUp rate nanos frame
+least_frame_at rate nanos frame h e = subst (IsFrameUp rate nanos) (sym e) (frame_up-least rate nanos)
+
+pub frame_again_at : (rate : Rate) (frame : ℕ) (r : Option TaiTime) → IsRate rate
+    → IfSome r (λ time. (time ≡ time_of (frame_start rate frame)) × IsTai time) → IfSome r (λ time. frame_up rate (nanos_of time) ≡ frame)
+frame_again_at rate frame None h e = tt
+frame_again_at rate frame (Some time) h e =
+    ap (λ (t : TaiTime). frame_up rate (nanos_of t)) e.0 ∙ ap (frame_up rate) (nanos_of-time_of (frame_start rate frame)) ∙ frame_up-start rate frame h
 
 -- what the parts of a text say
 pub found_at : {E : Type 0} (text : List ℕ) (r : Result TaiTime E) → HasColon text

@@ -31,7 +31,8 @@ unit_of-only frames hz x u h is =
     let it = unit_of-greatest frames hz x h in
     omega (arith, is.1 (unit_of frames hz x) it.0, it.1 u is.0)
 
--- The least unit from its own start on is the unit itself, where a unit is no shorter than a nanosecond.
+-- The least unit from its own start on is the unit itself, where a unit is no shorter than a
+-- nanosecond.
 pub unit_up-start : (frames hz u : ℕ) → 0 < frames → 0 < hz → hz ≤ frames * 10 ^ 9 → unit_up frames hz (unit_start frames hz u) ≡ u
 unit_up-start frames hz u some_frames some_hz long =
     let exact : ℕ = u * (frames * 10 ^ 9) in

@@ -1,4 +1,5 @@
-//! TAI times, and the ticks (packet times) that they lie in, exact and without floating point.
+//! TAI times, and the ticks (packet times) and frames that they lie in, exact and without floating
+//! point.
 #![tactic(auto)]
 
 mod tai;
@@ -7,4 +8,4 @@ mod tests;
 mod tick;
 
 pub use tai::{NANOS_PER_SECOND, SECS_LIMIT, Tai, TaiFault};
-pub use tick::{add, tick_of, tick_start, tick_up};
+pub use tick::{add, frame_start, frame_up, moment_start, tick_of, tick_start, tick_up};

@@ -1,6 +1,8 @@
 //! Values from outside: worked times, a table of ticks, and texts.
 
-use crate::{Tai, TaiFault, add, tick_of, tick_start, tick_up};
+use crate::{
+    Tai, TaiFault, add, frame_start, frame_up, moment_start, tick_of, tick_start, tick_up,
+};
 use io_caps::{Rate, TryCopy};
 use std::test::Fail;
 
@@ -28,6 +30,37 @@ fn tick_times(rt: HostRuntime) {
     };
     assert_eq!(rt; tick_start(1, frames), Some(start));
     assert_eq!(rt; tick_up(start, frames), 1);
+    let packets = Rate {
+        hz: 44100,
+        frames: 48,
+    };
+    assert_eq!(rt; frame_start(1, packets), Some(start));
+    assert_eq!(rt; frame_up(start, packets), 1);
+    assert_eq!(rt; frame_up(later, packets), 66150);
+}
+
+/// A frame of a tick begins where the same frame counted from TAI 0 does, up to the end of time.
+#[test]
+fn frames_of_ticks(rt: HostRuntime) {
+    let rate = Rate {
+        hz: 44100,
+        frames: 48,
+    };
+    let start = Tai {
+        secs: 0,
+        nanos: 22675,
+    };
+    let second = Tai { secs: 1, nanos: 0 };
+    let last = Tai {
+        secs: (1 << 40) - 1,
+        nanos: 999_977_324,
+    };
+    assert_eq!(rt; moment_start(0, 1, rate), Some(start));
+    assert_eq!(rt; moment_start(1, 0, rate), tick_start(1, rate));
+    assert_eq!(rt; moment_start(918, 36, rate), Some(second));
+    assert_eq!(rt; moment_start(1010176308019199, 47, rate), Some(last));
+    assert_eq!(rt; moment_start(1010176308019199, 48, rate), None);
+    assert_eq!(rt; moment_start(u64::MAX, 47, rate), None);
 }
 
 /// A rate, the start of tick 1000003 with the tick in which it lies, the last tick that has a start

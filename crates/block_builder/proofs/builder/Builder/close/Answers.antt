@@ -2,7 +2,7 @@ use Rattle.std.proofs.Common.{ℕ, List, ◌++◌, ◌∷◌, [], subst, sym, ap
 use Rattle.block_builder.specs.declared.arrival.Arrival.{Arrival}
 use Rattle.block_builder.specs.Blocks.{pieces_by}
 use Rattle.block_builder.specs.Building.{Building, IsBuilder}
-use Rattle.block_builder.specs.Came.{arrival_of}
+use Rattle.block_builder.specs.ArrivalRef.{arrival_of}
 use Rattle.block_builder.proofs.Builders.{clock_keeps}
 use Rattle.block_builder.proofs.builder.Builder.close.Goals as goal
 

@@ -7,11 +7,11 @@ use Rattle.block_builder.proofs.Walks.{returns, alloc_all, free_all, look_at, pa
 use Rattle.block_builder.proofs.Walks.{types_at, nothing, Clauses, Ended, closing, alive, Meets}
 use Rattle.block_builder.proofs.Walks.{triple_of, entered, Stays, ends_at, says, walk_Meets}
 use Rattle.block_builder.proofs.Walks.{walk_of, nobody, from_nothing}
-use Rattle.block_builder.specs.contracts.past.Past as contract_past
-use Rattle.block_builder.specs.contracts.past.Past.new as contract
-use Rattle.block_builder.specs.contracts.past.Past.new.Key.{name as #new}
-use Rattle.block_builder.proofs.past.Past.new.Statement as stated
-use Rattle.block_builder.proofs.past.Past.new.Code as code
+use Rattle.block_builder.specs.contracts.past.ArrivalLog as contract_past
+use Rattle.block_builder.specs.contracts.past.ArrivalLog.new as contract
+use Rattle.block_builder.specs.contracts.past.ArrivalLog.new.Key.{name as #new}
+use Rattle.block_builder.proofs.past.ArrivalLog.new.Statement as stated
+use Rattle.block_builder.proofs.past.ArrivalLog.new.Code as code
 
 abbrev body : Fn
 body = code.function

@@ -9,13 +9,13 @@ use Rattle.block_builder.proofs.Walks.{named_lft, plain, types_at, nothing, Clau
 use Rattle.block_builder.proofs.Walks.{alive, Meets, triple_of, entered, Goes-dropped, Stays}
 use Rattle.block_builder.proofs.Walks.{ends_at, says, stay_dropped, walk_Meets, walk_of, nobody}
 use Rattle.block_builder.proofs.Walks.{from_nothing}
-use Rattle.block_builder.specs.Came.{noted}
-use Rattle.block_builder.specs.contracts.past.Past as contract_past
-use Rattle.block_builder.specs.contracts.past.Came as contract_came
-use Rattle.block_builder.specs.contracts.past.Past.then as contract
-use Rattle.block_builder.specs.contracts.past.Past.then.Key.{name as #then}
-use Rattle.block_builder.proofs.past.Past.then.Statement as stated
-use Rattle.block_builder.proofs.past.Past.then.Code as code
+use Rattle.block_builder.specs.ArrivalRef.{noted}
+use Rattle.block_builder.specs.contracts.past.ArrivalLog as contract_past
+use Rattle.block_builder.specs.contracts.past.ArrivalRef as contract_came
+use Rattle.block_builder.specs.contracts.past.ArrivalLog.then as contract
+use Rattle.block_builder.specs.contracts.past.ArrivalLog.then.Key.{name as #then}
+use Rattle.block_builder.proofs.past.ArrivalLog.then.Statement as stated
+use Rattle.block_builder.proofs.past.ArrivalLog.then.Code as code
 
 abbrev body : Fn
 body = code.function
