@@ -17,7 +17,6 @@ use Rattle.map_entry.proofs.Selection.{selected-append}
 use Rattle.plain_book.specs.Book.{bad_channel_by, bad_row_at, empty_by, first_some, time_by}
 use Rattle.plain_book.specs.Book.{unknown_by}
 use Rattle.plain_book.specs.Desk.{held_at, refusal_from}
-use Rattle.plain_book.specs.Full.{full_from, places_each}
 use Rattle.plain_book.specs.Journal.{call_entries, change_entry, entries_of, kept_entry, row_from}
 use Rattle.plain_book.specs.Rows.{SelectsAlike}
 use Rattle.plain_book.specs.Time.{begin}
@@ -74,53 +73,51 @@ some_known d f g same (c ∷ cs) e =
 
 -- ---- entries
 
-pub changes_alike : (s : SetupParts) (from claims tick : ℕ) (list : List Entry)
+pub changes_alike : (s : SetupParts) (from claims tick offset : ℕ) (list : List Entry)
     (journal : List JournalCall) (action : List OutputChangeParts) → HasOutputs s
     → SelectsAlike s from list journal → from ≤ claims → unknown_by s.device action ≡ None
-    → map (change_entry s list claims tick action) action
-    ≡ map (change_entry s (entries_of s journal) claims tick action) action
-changes_alike s from claims tick list journal action some alike le there =
-    map_known s.device (change_entry s list claims tick action)
-    (change_entry s (entries_of s journal) claims tick action)
-    (λ c low. ap (λ (row : List Cell). entry_of c.output tick (applied row action c.output) claims)
+    → map (change_entry s list claims tick offset action) action
+    ≡ map (change_entry s (entries_of s journal) claims tick offset action) action
+changes_alike s from claims tick offset list journal action some alike le there =
+    map_known s.device (change_entry s list claims tick offset action)
+    (change_entry s (entries_of s journal) claims tick offset action)
+    (λ c low. ap (λ (row : List Cell). entry_of c.output tick offset (applied row action c.output) claims)
     (row_alike s from claims list journal c.output some alike le low)) action there
 
-pub kept_alike : (s : SetupParts) (from claims tick : ℕ) (list : List Entry)
+pub kept_alike : (s : SetupParts) (from claims tick offset : ℕ) (list : List Entry)
     (journal : List JournalCall) (action : List OutputChangeParts) → HasOutputs s
     → SelectsAlike s from list journal → from ≤ claims → unknown_by s.device action ≡ None
-    → map (kept_entry s list claims tick) action
-    ≡ map (kept_entry s (entries_of s journal) claims tick) action
-kept_alike s from claims tick list journal action some alike le there =
-    map_known s.device (kept_entry s list claims tick)
-    (kept_entry s (entries_of s journal) claims tick)
-    (λ c low. ap (λ (row : List Cell). entry_of c.output tick row claims)
+    → map (kept_entry s list claims tick offset) action
+    ≡ map (kept_entry s (entries_of s journal) claims tick offset) action
+kept_alike s from claims tick offset list journal action some alike le there =
+    map_known s.device (kept_entry s list claims tick offset)
+    (kept_entry s (entries_of s journal) claims tick offset)
+    (λ c low. ap (λ (row : List Cell). entry_of c.output tick offset row claims)
     (row_alike s from claims list journal c.output some alike le low)) action there
 
 -- ---- the refusal
 
 refusal_by : (s : SetupParts) (a b : Option Refusal)
-    (empty rest time full held channels : Option Refusal) (u : Option Refusal) → (u ≡ None → a ≡ b)
-    → option_or empty
-    (option_or u (option_or channels (option_or held (option_or a (option_or time full)))))
-    ≡ option_or empty
-    (option_or u (option_or channels (option_or held (option_or b (option_or time full)))))
-refusal_by s a b empty rest time full held channels None same =
+    (empty time held channels : Option Refusal) (u : Option Refusal) → (u ≡ None → a ≡ b)
+    → option_or empty (option_or u (option_or channels (option_or held (option_or a time))))
+    ≡ option_or empty (option_or u (option_or channels (option_or held (option_or b time))))
+refusal_by s a b empty time held channels None same =
     ap (λ (r : Option Refusal).
-    option_or empty (option_or channels (option_or held (option_or r (option_or time full)))))
+    option_or empty (option_or channels (option_or held (option_or r time))))
     (same refl)
-refusal_by s a b empty rest time full held channels (Some x) same = refl
+refusal_by s a b empty time held channels (Some x) same = refl
 
-pub refusal_alike : (s : SetupParts) (from claims used : ℕ) (list : List Entry)
+pub refusal_alike : (s : SetupParts) (from claims : ℕ) (list : List Entry)
     (pending : List PendingItem) (journal : List JournalCall) (when : When)
     (action : List OutputChangeParts) → HasOutputs s → SelectsAlike s from list journal
     → from ≤ claims
-    → refusal_from s list pending used claims when action
-    ≡ refusal_from s (entries_of s journal) pending used claims when action
+    → refusal_from s list pending claims when action
+    ≡ refusal_from s (entries_of s journal) pending claims when action
 unfolding refusal_from
-refusal_alike s from claims used list pending journal when action some alike le =
+refusal_alike s from claims list pending journal when action some alike le =
     refusal_by s (first_some (bad_row_at s list claims action) action)
     (first_some (bad_row_at s (entries_of s journal) claims action) action)
-    (empty_by action) None (time_by s claims when) (full_from used (places_each when) action)
+    (empty_by action) (time_by s claims when)
     (first_some (held_at pending) action) (bad_channel_by s.device action)
     (unknown_by s.device action)
     (λ none. some_known s.device (bad_row_at s list claims action)

@@ -12,7 +12,7 @@ use Rattle.map_entry.specs.Setup.{IsSetup, SetupParts}
 use Rattle.map_entry.specs.declared.cell.Cell.{Cell}
 use Rattle.map_entry.specs.declared.entry.Entry.{Entry}
 use Rattle.map_entry.proofs.Rows.{rows_long}
-use Rattle.plain_book.specs.Desk.{IsDesk, KeptParts, is_above, latest_item, looked_at, places_kept}
+use Rattle.plain_book.specs.Desk.{IsDesk, BookStateParts, is_above, latest_item, looked_at}
 use Rattle.plain_book.specs.Desk.{from_claims}
 use Rattle.plain_book.specs.Journal.{base_entries, base_entry, entries_of}
 use Rattle.plain_book.specs.Pending.{pending_of}
@@ -22,6 +22,7 @@ use Rattle.book_words.specs.declared.replies.PendingItem.{PendingItem}
 use Rattle.plain_book.proofs.Entries.{entries_none}
 use Rattle.plain_book.proofs.Keeping.{has_outputs, legal_at, since_at}
 use Rattle.plain_book.proofs.Looking.{last_later, still_pending}
+use Rattle.plain_book.proofs.Places.{once_filtered}
 use Rattle.plain_book.proofs.Prefixes.{no_calls}
 use Rattle.plain_book.proofs.Sound.{entries_are, base_rows}
 use Rattle.plain_book.specs.Ruling.{IsPruned}
@@ -29,15 +30,15 @@ use Rattle.plain_book.proofs.Waiting.{begin_rises}
 
 -- the entry of a base row that was read
 pub entry_is : (s : SetupParts) (o : ℕ) (row : List Cell) → slice_get s.rows o ≡ Some row
-    → entry_of o s.device.base row 0 ≡ base_entry s o
+    → entry_of o s.device.base 0 row 0 ≡ base_entry s o
 entry_is s o row read =
-    ap (λ (r : Option (List Cell)). entry_of o s.device.base (unwrap_or r []) 0) (sym read)
+    ap (λ (r : Option (List Cell)). entry_of o s.device.base 0 (unwrap_or r []) 0) (sym read)
 
-pub desk_new : (s : SetupParts) (entries : List Entry) (kept : KeptParts) → IsSetup s
+pub desk_new : (s : SetupParts) (entries : List Entry) (kept : BookStateParts) → IsSetup s
     → kept.from ≡ 0 → kept.journal ≡ [] → entries ≡ base_entries s → kept.seen ≡ 0
-    → kept.pending ≡ [] → kept.last ≡ None → kept.next ≡ 1 → kept.used ≡ length s.device.outputs
+    → kept.pending ≡ [] → kept.last ≡ None → kept.next ≡ 1
     → IsDesk s 0 entries kept
-desk_new s entries kept checked from journal entries_is seen pending last next used = record {
+desk_new s entries kept checked from journal entries_is seen pending last next = record {
   setup = checked;
   legal = rw journal (no_calls s kept.seen);
   since = omega (arith, from);
@@ -54,21 +55,11 @@ desk_new s entries kept checked from journal entries_is seen pending last next u
   pending_are = rw journal pending;
   last_is = rw journal last;
   next_is = rw journal next;
-  used_are = rw journal (omega (arith, used));
-  room = omega (arith, used, checked.device.bounds.few_outputs);
-  places =
-      omega (
-        arith,
-        used,
-        ap length entries_is,
-        length-map-range_with_len (base_entry s) 0 (length s.rows),
-        rows_long s checked,
-        ap places_kept pending,
-      );
+  once = rw pending (λ o. omega arith);
 }
 
 -- after more claims
-pub desk_raised : (s : SetupParts) (claims more : ℕ) (entries : List Entry) (kept : KeptParts)
+pub desk_raised : (s : SetupParts) (claims more : ℕ) (entries : List Entry) (kept : BookStateParts)
     → IsDesk s claims entries kept → claims ≤ more
     → IsDesk s more entries kept
 desk_raised s claims more entries kept desk up = record {
@@ -82,32 +73,11 @@ desk_raised s claims more entries kept desk up = record {
   pending_are = desk.pending_are;
   last_is = desk.last_is;
   next_is = desk.next_is;
-  used_are = desk.used_are;
-  room = desk.room;
-  places = desk.places;
+  once = desk.once;
 }
 
-fewer_places : (p : PendingItem → Bool) (items : List PendingItem)
-    → places_kept (filter p items) ≤ places_kept items
-fewer_places p [] = omega arith
-fewer_places p (x ∷ xs) = elim (cases_Bool (p x)) [
-  | inl hit ↦
-      rw hit
-      (let l = fewer_places p xs in
-      omega (
-        arith,
-        l,
-        sum_by-cons (λ (i : PendingItem). length i.action) x xs,
-        sum_by-cons (λ (i : PendingItem). length i.action) x (filter p xs),
-      ))
-  | inr miss ↦
-      rw miss
-      (let l = fewer_places p xs in
-      omega (arith, l, sum_by-cons (λ (i : PendingItem). length i.action) x xs))
-]
-
 -- after it has looked at what is pending
-pub desk_looked : (s : SetupParts) (claims : ℕ) (entries : List Entry) (p : KeptParts)
+pub desk_looked : (s : SetupParts) (claims : ℕ) (entries : List Entry) (p : BookStateParts)
     → IsDesk s claims entries p
     → IsDesk s claims entries (looked_at p (begin s claims) claims)
 desk_looked s claims entries p desk =
@@ -131,13 +101,11 @@ desk_looked s claims entries p desk =
           (map item_of (pending_of s p.journal p.seen))))) desk.last_is
           ∙ last_later s p.journal p.seen claims some desk.legal desk.looked;
       next_is = desk.next_is;
-      used_are = desk.used_are;
-      room = desk.room;
-      places = omega (arith, desk.places, fewer_places (is_above (begin s claims)) p.pending);
+      once = once_filtered (is_above (begin s claims)) p.pending desk.once;
     }
 
 -- with fewer entries, which select the same from these claims on
-pub desk_pruned : (s : SetupParts) (claims : ℕ) (entries fewer : List Entry) (p : KeptParts)
+pub desk_pruned : (s : SetupParts) (claims : ℕ) (entries fewer : List Entry) (p : BookStateParts)
     → IsDesk s claims entries p → p.seen ≡ claims → IsPruned (begin s claims) entries fewer
     → IsDesk s claims fewer (from_claims p claims)
 desk_pruned s claims entries fewer p desk at pruned = record {
@@ -157,7 +125,5 @@ desk_pruned s claims entries fewer p desk at pruned = record {
   pending_are = desk.pending_are;
   last_is = desk.last_is;
   next_is = desk.next_is;
-  used_are = desk.used_are;
-  room = desk.room;
-  places = omega (arith, desk.places, pruned.few);
+  once = desk.once;
 }

@@ -1,5 +1,6 @@
 -- What is carried selects, from the first tick on that has not begun, what the whole journal
 -- selects.
+use Rattle.map_entry.specs.Tick.{frame_key}
 use Rattle.std.proofs.Common.{◌≡◌, ℕ, zero, suc, ◌+◌, ◌<◌, ◌≤◌, Bool, true, false, eqb, List, []}
 use Rattle.std.proofs.Common.{◌∷◌, ◌++◌, length, map, Option, Some, None, inl, inr, refl, sym, ap}
 use Rattle.std.proofs.Common.{subst, ◌∙◌, append_assoc, arith}
@@ -45,65 +46,67 @@ or_some : {X : Type 0} (a b : Option X) → IsSome a → IsSome (option_or a b)
 or_some None b is = absurd (false≢true is)
 or_some (Some x) b is = refl
 
-some_first : {X : Type 0} (a b c : Option X) → IsSome a → option_or a b ≡ option_or a c
+pub some_first : {X : Type 0} (a b c : Option X) → IsSome a → option_or a b ≡ option_or a c
 some_first a b c is = option_or-Some a b is ∙ sym (option_or-Some a c is)
 
 -- ---- the entries of one call
 
-change_there : (s : SetupParts) (entries : List Entry) (claims d o t : ℕ)
-    (action changes : List OutputChangeParts) → d ≤ t
+change_there : (s : SetupParts) (entries : List Entry) (claims tick offset o t : ℕ)
+    (action changes : List OutputChangeParts) → frame_key tick offset ≤ t
     → list_any (λ c. eqb c.output o) changes ≡ true
-    → IsSome (selected (map (change_entry s entries claims d action) changes) o t)
-change_there s entries claims d o t action [] le named = absurd (false≢true named)
-change_there s entries claims d o t action (c ∷ changes) le named =
-    let e : Entry = change_entry s entries claims d action c in
+    → IsSome (selected (map (change_entry s entries claims tick offset action) changes) o t)
+change_there s entries claims tick offset o t action [] le named = absurd (false≢true named)
+change_there s entries claims tick offset o t action (c ∷ changes) le named =
+    let e : Entry = change_entry s entries claims tick offset action c in
     let rest : Option (List Cell) =
-    selected (map (change_entry s entries claims d action) changes) o t in
+    selected (map (change_entry s entries claims tick offset action) changes) o t in
     elim (cases_Bool (list_any (λ (x : OutputChangeParts). eqb x.output o) changes)) [
       | inl later ↦
           or_some rest (row_where (rules due o t e) e)
-          (change_there s entries claims d o t action changes le later)
+          (change_there s entries claims tick offset o t action changes le later)
       | inr none ↦
           let here : eqb c.output o ≡ true =
           or_first (eqb c.output o)
           (list_any (λ (x : OutputChangeParts). eqb x.output o) changes) named none in
-          rw (here, le-ltb t d le) (covered rest (Some e.row) refl)
+          rw (here, le-ltb t (frame_key tick offset) le) (covered rest (Some e.row) refl)
     ]
 
-call_there : (s : SetupParts) (before : List JournalCall) (entries : List Entry) (at tick o t : ℕ)
-    (request : Request) → is_activation request ≡ true → names_output o request ≡ true → tick ≤ t
-    → IsSome (selected (request_entries s before entries at tick request) o t)
-call_there s before entries at tick o t (Activate when action) is named le =
-    change_there s entries at tick o t action action le named
-call_there s before entries at tick o t (Delete id) is named le = absurd (false≢true is)
-call_there s before entries at tick o t Active is named le = absurd (false≢true is)
-call_there s before entries at tick o t Pending is named le = absurd (false≢true is)
+pub call_there : (s : SetupParts) (before : List JournalCall) (entries : List Entry)
+    (at tick offset o t : ℕ)
+    (request : Request) → is_activation request ≡ true → names_output o request ≡ true → frame_key tick offset ≤ t
+    → IsSome (selected (request_entries s before entries at tick offset request) o t)
+call_there s before entries at tick offset o t (Activate when action) is named le =
+    change_there s entries at tick offset o t action action le named
+call_there s before entries at tick offset o t (Delete id) is named le = absurd (false≢true is)
+call_there s before entries at tick offset o t Active is named le = absurd (false≢true is)
+call_there s before entries at tick offset o t Pending is named le = absurd (false≢true is)
 
-call_out : (s : SetupParts) (before : List JournalCall) (entries : List Entry) (at tick o t : ℕ)
-    (request : Request) → is_activation request ≡ true → (names_output o request ≡ true → t < tick)
-    → selected (request_entries s before entries at tick request) o t ≡ None
-call_out s before entries at tick o t (Activate when action) is late =
+pub call_out : (s : SetupParts) (before : List JournalCall) (entries : List Entry)
+    (at tick offset o t : ℕ)
+    (request : Request) → is_activation request ≡ true → (names_output o request ≡ true → t < frame_key tick offset)
+    → selected (request_entries s before entries at tick offset request) o t ≡ None
+call_out s before entries at tick offset o t (Activate when action) is late =
     elim (cases_Bool (list_any (λ (x : OutputChangeParts). eqb x.output o) action)) [
       | inl named ↦
-          none_yet (map (change_entry s entries at tick action) action) o t tick
-          (all_map (λ (e : Entry). due e ≡ tick) (change_entry s entries at tick action) action
+          none_yet (map (change_entry s entries at tick offset action) action) o t (frame_key tick offset)
+          (all_map (λ (e : Entry). due e ≡ frame_key tick offset) (change_entry s entries at tick offset action) action
           (λ x i. refl)) (late named)
       | inr other ↦
-          none_named (map (change_entry s entries at tick action) action) o t
-          (all_map (λ (e : Entry). eqb e.output o ≡ false) (change_entry s entries at tick action)
+          none_named (map (change_entry s entries at tick offset action) action) o t
+          (all_map (λ (e : Entry). eqb e.output o ≡ false) (change_entry s entries at tick offset action)
           action (not_any (λ (x : OutputChangeParts). eqb x.output o) action other))
     ]
-call_out s before entries at tick o t (Delete id) is late = absurd (false≢true is)
-call_out s before entries at tick o t Active is late = absurd (false≢true is)
-call_out s before entries at tick o t Pending is late = absurd (false≢true is)
+call_out s before entries at tick offset o t (Delete id) is late = absurd (false≢true is)
+call_out s before entries at tick offset o t Active is late = absurd (false≢true is)
+call_out s before entries at tick offset o t Pending is late = absurd (false≢true is)
 
 -- ---- the entries of some calls
 
-abbrev made_by : SetupParts → (JournalCall → Bool) → List JournalCall → JournalCall → List Entry
+abbrev pub made_by : SetupParts → (JournalCall → Bool) → List JournalCall → JournalCall → List Entry
 made_by s keep before call =
     if keep call then call_entries s before (entries_of s before) call else []
 
-part_more : (s : SetupParts) (keep : JournalCall → Bool) (before calls : List JournalCall)
+pub part_more : (s : SetupParts) (keep : JournalCall → Bool) (before calls : List JournalCall)
     (call : JournalCall)
     → entries_where s keep before (calls ++ call ∷ [])
     ≡ entries_where s keep before calls ++ made_by s keep (before ++ calls) call
@@ -138,7 +141,7 @@ none_due s keep o t before [] acts late = refl
 none_due s keep o t before (c ∷ calls) acts late =
     let first =
     made_none s keep before c o t
-    (λ kept. call_out s before (entries_of s before) c.at c.tick o t c.request
+    (λ kept. call_out s before (entries_of s before) c.at c.tick c.offset o t c.request
     (acts c (inl refl) kept) (late c (inl refl) kept)) in
     let rest =
     none_due s keep o t (before ++ c ∷ []) calls (λ x i. acts x (inr i)) (λ x i. late x (inr i)) in
@@ -157,7 +160,7 @@ Rules s journal =
     → selected (entries_where s keep [] journal) o t ≡ selected (entries_of s journal) o t
 
 -- a deletion after a pending call that stays pending does not take back an output of it
-deletion_out : (s : SetupParts) (before : List JournalCall) (call : JournalCall) (id : ℕ)
+pub deletion_out : (s : SetupParts) (before : List JournalCall) (call : JournalCall) (id : ℕ)
     (found : JournalCall) (c o t : ℕ) (p : JournalCall) → HasOutputs s
     → IsLegalJournal s call.at before → IsDeletion s before call id found → call.at ≤ c
     → Holds s before c o p → is_deleted (before ++ call ∷ []) p.id ≡ false
@@ -169,8 +172,8 @@ deletion_out s before call id found c o t p some legal is le h stands =
     (action_of found.request))) [
       | inr other ↦
           ap (λ (es : List Entry). selected es o t) (deleted_entries s before call id found is)
-          ∙ none_named (map (kept_entry s entries call.at call.tick) (action_of found.request)) o t
-          (all_map (λ (e : Entry). eqb e.output o ≡ false) (kept_entry s entries call.at call.tick)
+          ∙ none_named (map (kept_entry s entries call.at call.tick call.offset) (action_of found.request)) o t
+          (all_map (λ (e : Entry). eqb e.output o ≡ false) (kept_entry s entries call.at call.tick call.offset)
           (action_of found.request)
           (not_any (λ (x : OutputChangeParts). eqb x.output o) (action_of found.request) other))
       | inl named ↦
@@ -217,9 +220,9 @@ more_rules s before call some legal is so_far keep c o t p within h kept at_last
           is_scheduled_activation call.request
           (subst (λ (x : JournalCall). IsWaiting s (before ++ call ∷ []) c x) (sym same)
           h.pending).scheduled in
-          let tick : call.tick ≡ p.tick = ap (λ (x : JournalCall). x.tick) same in
+          let tick : call_due call ≡ call_due p = ap call_due same in
           let there : IsSome (selected new o t) =
-          call_there s before (entries_of s before) call.at call.tick o t call.request act named
+          call_there s before (entries_of s before) call.at call.tick call.offset o t call.request act named
           (omega (arith, tick, at_last)) in
           parts
           ∙ ap (λ (es : List Entry).
@@ -234,7 +237,7 @@ more_rules s before call some legal is so_far keep c o t p within h kept at_last
           } in
           let none : selected new o t ≡ None = elim (cases s before call is) [
             | inl a ↦
-                call_out s before (entries_of s before) call.at call.tick o t call.request
+                call_out s before (entries_of s before) call.at call.tick call.offset o t call.request
                 (ap is_activation a.2.asks)
                 (λ named. absurd (none_held s before call c o p some is le named h_before))
             | inr d ↦
@@ -334,17 +337,17 @@ carried_rules s c journal o t checked some legal lt since =
           let held = holds f.item g.0 g.1 f.passes in
           let only : (x : JournalCall) → Holds s journal c o x → f.item ≡ x =
           λ x h. alone s c journal some legal c o f.item x (in_time s c journal legal) held h in
-          elim (cases_lt t f.item.tick) [
+          elim (cases_lt t (call_due f.item)) [
             | inl early ↦
                 rows_alone s journal c o t lt since
                 (none_due s keep o t [] journal acts
                 (λ x i k named.
-                let e : f.item.tick ≡ x.tick =
-                ap (λ (z : JournalCall). z.tick) (only x (holds x i k named)) in
+                let e : call_due f.item ≡ call_due x =
+                ap call_due (only x (holds x i k named)) in
                 omega (arith, e, early))) there
                 ∙ sym (steady s c journal checked some legal c o t (in_time s c journal legal) since
                 (λ x h.
-                let e : f.item.tick ≡ x.tick = ap (λ (z : JournalCall). z.tick) (only x h) in
+                let e : call_due f.item ≡ call_due x = ap call_due (only x h) in
                 omega (arith, e, early)))
             | inr at_last ↦
                 let rows : List Entry =

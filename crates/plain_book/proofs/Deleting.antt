@@ -1,4 +1,7 @@
 -- What a book keeps, after an accepted deletion.
+use Rattle.plain_book.specs.declared.moments.Moment.{Moment}
+use Rattle.plain_book.specs.Moments.{moment}
+use Rattle.plain_book.specs.Desk.{moment_of}
 use Rattle.std.proofs.Common.{◌≡◌, ℕ, ◌+◌, ◌<◌, ◌≤◌, true, eqb, List, [], ◌∷◌, ◌++◌, length, map}
 use Rattle.std.proofs.Common.{Option, Some, None, inl, inr, refl, sym, ap, ◌∙◌, subst, arith}
 use Rattle.std.proofs.Common.{length-append}
@@ -15,9 +18,9 @@ use Rattle.map_entry.specs.Setup.{SetupParts}
 use Rattle.map_entry.specs.declared.entry.Entry.{Entry}
 use Rattle.plain_book.specs.Book.{call_of, deletion, reply_of, unknown_by}
 use Rattle.book_words.specs.Calls.{action_of, is_activation, journal_call}
-use Rattle.plain_book.specs.Desk.{IsDecided, IsDesk, KeptParts, item_at, places_kept, settled}
+use Rattle.plain_book.specs.Desk.{IsDecided, IsDesk, BookStateParts, item_at, settled}
 use Rattle.plain_book.specs.Desk.{staged, taken_by}
-use Rattle.plain_book.specs.Full.{places_of, places_used}
+use Rattle.plain_book.specs.Places.{IsHeldOnce, places_kept, places_of}
 use Rattle.plain_book.specs.Journal.{call_entries, entries_of, kept_entry}
 use Rattle.plain_book.specs.Legal.{IsAccepted, IsLegalJournal}
 use Rattle.plain_book.specs.Pending.{is_pending, next_id, pending_call, pending_of}
@@ -35,13 +38,14 @@ use Rattle.plain_book.proofs.Keeping.{has_outputs, at_seen, last_at, last_seen, 
 use Rattle.plain_book.proofs.Keeping.{pending_at, since_at}
 use Rattle.plain_book.proofs.Lists.{IsIn, from_find, from_filter}
 use Rattle.plain_book.proofs.Looking.{item_pending}
+use Rattle.plain_book.proofs.Places.{once_filtered}
 use Rattle.plain_book.proofs.Publishing.{made_of}
 use Rattle.plain_book.proofs.Sound.{IsSound, entries_are, sound}
 use Rattle.plain_book.proofs.Waiting.{found_waits, one_of}
 
 -- ---- the item that is found
 
-pub item_is : (s : SetupParts) (claims : ℕ) (entries : List Entry) (kept : KeptParts) (id : ℕ)
+pub item_is : (s : SetupParts) (claims : ℕ) (entries : List Entry) (kept : BookStateParts) (id : ℕ)
     (o : Option PendingItem) → IsDesk s claims entries kept → kept.seen ≡ claims
     → o ≡ item_at id kept.pending
     → o ≡ option_map item_of (pending_call s kept.journal claims id)
@@ -57,17 +61,17 @@ none_taken s entries claims (Some c) e = absurd cc
 
 pub some_taken : (s : SetupParts) (entries : List Entry) (claims : ℕ) (found : Option JournalCall)
     (item : PendingItem) (made : List Entry) → Some item ≡ option_map item_of found
-    → made ≡ map (kept_entry s entries claims item.tick) item.action
-    → Some (item.tick, made) ≡ option_map (taken_by s entries claims) found
+    → made ≡ map (kept_entry s entries claims item.tick item.offset) item.action
+    → Some (moment item.tick item.offset, made) ≡ option_map (taken_by s entries claims) found
 some_taken s entries claims None item made e is = absurd cc
 some_taken s entries claims (Some c) item made e is =
     let same : item ≡ item_of c = cc in
-    ap (λ (m : List Entry). Some (item.tick, m)) is
-    ∙ ap (λ (i : PendingItem). Some (i.tick, map (kept_entry s entries claims i.tick) i.action))
+    ap (λ (m : List Entry). Some (moment item.tick item.offset, m)) is
+    ∙ ap (λ (i : PendingItem). Some (moment i.tick i.offset, map (kept_entry s entries claims i.tick i.offset) i.action))
     same
 
 -- its outputs are there
-all_known : (d : DeviceParts) (action : List OutputChangeParts)
+pub all_known : (d : DeviceParts) (action : List OutputChangeParts)
     → ((c : OutputChangeParts) → IsIn c action → c.output < length d.outputs)
     → unknown_by d action ≡ None
 all_known d [] each = refl
@@ -87,7 +91,8 @@ known_of s journal claims id (Some c) item fine is e =
     subst (λ (i : PendingItem). unknown_by s.device i.action ≡ None) same
     (all_known s.device (action_of c.request) (λ x i. fine.named c g.0 x i))
 
-pub item_known : (s : SetupParts) (claims : ℕ) (entries : List Entry) (kept : KeptParts) (id : ℕ)
+pub item_known : (s : SetupParts) (claims : ℕ) (entries : List Entry) (kept : BookStateParts)
+    (id : ℕ)
     (item : PendingItem) → IsDesk s claims entries kept
     → Some item ≡ option_map item_of (pending_call s kept.journal claims id)
     → unknown_by s.device item.action ≡ None
@@ -104,7 +109,8 @@ delete_reply : (s : SetupParts) (journal : List JournalCall) (claims id : ℕ)
 unfolding reply_of
 delete_reply s journal claims id = refl
 
-pub not_pending : (s : SetupParts) (claims client id : ℕ) (entries : List Entry) (p : KeptParts)
+pub not_pending : (s : SetupParts) (claims client id : ℕ) (entries : List Entry)
+    (p : BookStateParts)
     (request : Request) (found : Option JournalCall) → request ≡ Delete id
     → pending_call s p.journal claims id ≡ found
     → None ≡ option_map (taken_by s entries claims) found
@@ -121,55 +127,56 @@ not_pending s claims client id entries p request None asks is none = record {
 }
 
 pub record IsGone (s : SetupParts) (claims client id : ℕ) (journal : List JournalCall)
-    (entries : List Entry) (request : Request) (tick : ℕ) (made : List Entry) : Type 0 where
+    (entries : List Entry) (request : Request) (m : Moment) (made : List Entry) : Type 0 where
   pub found : JournalCall
   pub asks : request ≡ Delete id
   pub is : pending_call s journal claims id ≡ Some found
-  pub tick_is : tick ≡ found.tick
-  pub made_is : made ≡ map (kept_entry s entries claims found.tick) (action_of found.request)
+  pub moment_is : m ≡ moment_of found
+  pub made_is : made ≡ map (kept_entry s entries claims found.tick found.offset) (action_of found.request)
 
 pub is_gone : (s : SetupParts) (claims client id : ℕ) (journal : List JournalCall)
-    (entries : List Entry) (request : Request) (tick : ℕ) (made : List Entry)
+    (entries : List Entry) (request : Request) (m : Moment) (made : List Entry)
     (found : Option JournalCall) → request ≡ Delete id → pending_call s journal claims id ≡ found
-    → Some (tick, made) ≡ option_map (taken_by s entries claims) found
-    → IsGone s claims client id journal entries request tick made
-is_gone s claims client id journal entries request tick made None asks is e = absurd cc
-is_gone s claims client id journal entries request tick made (Some c) asks is e =
-    let same : (tick, made) ≡ taken_by s entries claims c = cc in
+    → Some (m, made) ≡ option_map (taken_by s entries claims) found
+    → IsGone s claims client id journal entries request m made
+is_gone s claims client id journal entries request m made None asks is e = absurd cc
+is_gone s claims client id journal entries request m made (Some c) asks is e =
+    let same : (m, made) ≡ taken_by s entries claims c = cc in
     record {
       found = c;
       asks = asks;
       is = is;
-      tick_is = ap (λ (p : ℕ × List Entry). p.0) same;
-      made_is = ap (λ (p : ℕ × List Entry). p.1) same;
+      moment_is = ap (λ (p : Moment × List Entry). p.0) same;
+      made_is = ap (λ (p : Moment × List Entry). p.1) same;
     }
 
 gone_reply : (s : SetupParts) (claims client id : ℕ) (journal : List JournalCall)
-    (entries : List Entry) (request : Request) (tick : ℕ) (made : List Entry)
-    → IsGone s claims client id journal entries request tick made
+    (entries : List Entry) (request : Request) (m : Moment) (made : List Entry)
+    → IsGone s claims client id journal entries request m made
     → reply_of s journal claims request ≡ Deleted id
-gone_reply s claims client id journal entries request tick made is =
+gone_reply s claims client id journal entries request m made is =
     ap (reply_of s journal claims) is.asks ∙ delete_reply s journal claims id
     ∙ ap (λ (o : Option JournalCall).
     option_map_or (λ call. Deleted id) o (Refused (NotPending id))) is.is
 
 gone_call : (s : SetupParts) (claims client id : ℕ) (journal : List JournalCall)
-    (entries : List Entry) (request : Request) (tick : ℕ) (made : List Entry)
-    → IsGone s claims client id journal entries request tick made
+    (entries : List Entry) (request : Request) (m : Moment) (made : List Entry)
+    → IsGone s claims client id journal entries request m made
     → call_of s journal client claims request (Deleted id)
-    ≡ Some (journal_call claims client 0 tick request)
-gone_call s claims client id journal entries request tick made is =
+    ≡ Some (journal_call claims client 0 m.tick m.offset request)
+gone_call s claims client id journal entries request m made is =
     ap (option_map (deletion client claims request)) is.is
-    ∙ ap (λ (t : ℕ). Some (journal_call claims client 0 t request)) (sym is.tick_is)
+    ∙ ap (λ (n : Moment). Some (journal_call claims client 0 n.tick n.offset request))
+    (sym is.moment_is)
 
 gone_accepted : (s : SetupParts) (claims client id : ℕ) (journal : List JournalCall)
-    (entries : List Entry) (request : Request) (tick : ℕ) (made : List Entry)
-    → IsGone s claims client id journal entries request tick made
-    → IsAccepted s journal (journal_call claims client 0 tick request)
-gone_accepted s claims client id journal entries request tick made is =
+    (entries : List Entry) (request : Request) (m : Moment) (made : List Entry)
+    → IsGone s claims client id journal entries request m made
+    → IsAccepted s journal (journal_call claims client 0 m.tick m.offset request)
+gone_accepted s claims client id journal entries request m made is =
     ap (call_of s journal client claims request)
-    (gone_reply s claims client id journal entries request tick made is)
-    ∙ gone_call s claims client id journal entries request tick made is
+    (gone_reply s claims client id journal entries request m made is)
+    ∙ gone_call s claims client id journal entries request m made is
 
 more : (x : PendingItem) (xs : List PendingItem)
     → places_kept (x ∷ xs) ≡ length x.action + places_kept xs
@@ -205,35 +212,36 @@ places_less id item (x ∷ xs) (inr i, at) = elim (cases_Bool (eqb id x.id)) [
       omega (arith, l, more x xs, more x (filter (λ i. not (eqb id i.id)) xs)))
 ]
 
-gone_item : (s : SetupParts) (claims client id : ℕ) (entries : List Entry) (p : KeptParts)
-    (request : Request) (tick : ℕ) (made : List Entry) → IsDesk s claims entries p → p.seen ≡ claims
-    → (is : IsGone s claims client id p.journal entries request tick made)
+gone_item : (s : SetupParts) (claims client id : ℕ) (entries : List Entry) (p : BookStateParts)
+    (request : Request) (m : Moment) (made : List Entry) → IsDesk s claims entries p → p.seen ≡ claims
+    → (is : IsGone s claims client id p.journal entries request m made)
     → IsIn (item_of is.found) p.pending × (eqb is.found.id id ≡ true)
-gone_item s claims client id entries p request tick made desk at is =
+gone_item s claims client id entries p request m made desk at is =
     let found : item_at id p.pending ≡ Some (item_of is.found) =
     ap (item_at id) (pending_at s claims entries p desk at) ∙ item_pending s p.journal claims id
     ∙ ap (option_map item_of) is.is in
     from_find (λ (i : PendingItem). eqb i.id id) (item_of is.found) p.pending found
 
 pub gone_desk : (s : SetupParts) (claims client id : ℕ) (entries after : List Entry)
-    (old new : KeptParts) (request : Request) (tick : ℕ) (made : List Entry) (call : JournalCall)
-    → IsDesk s claims entries old → IsGone s claims client id old.journal entries request tick made
-    → call ≡ journal_call claims client 0 tick request → new.journal ≡ old.journal ++ call ∷ []
+    (old new : BookStateParts) (request : Request) (m : Moment) (made : List Entry)
+    (call : JournalCall)
+    → IsDesk s claims entries old → IsGone s claims client id old.journal entries request m made
+    → call ≡ journal_call claims client 0 m.tick m.offset request → new.journal ≡ old.journal ++ call ∷ []
     → after ≡ entries ++ made → new.pending ≡ filter (λ item. not (eqb id item.id)) old.pending
     → old.seen ≡ claims → new.seen ≡ claims → new.last ≡ old.last → new.from ≡ old.from
-    → new.next ≡ old.next → new.used ≡ old.used
+    → new.next ≡ old.next
     → IsDesk s claims after new
-gone_desk s claims client id entries after old new request tick made call desk is call_is journal
-    after_is pending old_seen seen last from next used =
-    let taken : JournalCall = journal_call claims client 0 is.found.tick (Delete id) in
+gone_desk s claims client id entries after old new request m made call desk is call_is journal
+    after_is pending old_seen seen last from next =
+    let taken : JournalCall = journal_call claims client 0 is.found.tick is.found.offset (Delete id) in
     let whole : call ≡ taken =
-    call_is ∙ ap (journal_call claims client 0 tick) is.asks
-    ∙ ap (λ (t : ℕ). journal_call claims client 0 t (Delete id)) is.tick_is in
+    call_is ∙ ap (journal_call claims client 0 m.tick m.offset) is.asks
+    ∙ ap (λ (n : Moment). journal_call claims client 0 n.tick n.offset (Delete id)) is.moment_is in
     let journal_is : new.journal ≡ old.journal ++ taken ∷ [] =
     journal ∙ ap (λ (c : JournalCall). old.journal ++ c ∷ []) whole in
     let ok : IsAccepted s old.journal taken =
     subst (IsAccepted s old.journal) (sym call_is ∙ whole)
-    (gone_accepted s claims client id old.journal entries request tick made is) in
+    (gone_accepted s claims client id old.journal entries request m made is) in
     let legal : IsLegalJournal s claims (old.journal ++ taken ∷ []) =
     legal_more s claims old.journal taken (legal_at s claims entries old desk) ok refl in
     let whole_are =
@@ -244,10 +252,10 @@ gone_desk s claims client id entries after old new request tick made call desk i
     (sym (ap (option_map item_of) is.is)) in
     let made_alike : made ≡ call_entries s old.journal (entries_of s old.journal) taken =
     is.made_is
-    ∙ kept_alike s old.from claims is.found.tick entries old.journal (action_of is.found.request)
+    ∙ kept_alike s old.from claims is.found.tick is.found.offset entries old.journal (action_of is.found.request)
     (has_outputs s desk.setup) desk.alike (since_at s claims entries old desk) there
     ∙ ap (λ (o : Option JournalCall). map (kept_entry s (entries_of s old.journal) claims
-    is.found.tick)
+    is.found.tick is.found.offset)
     (option_map_or (λ c. action_of c.request) o [])) (sym is.is) in
     record {
       setup = desk.setup;
@@ -270,11 +278,11 @@ gone_desk s claims client id entries after old new request tick made call desk i
           pending
           ∙ ap (filter (λ (i : PendingItem). not (eqb id i.id)))
           (pending_at s claims entries old desk old_seen)
-          ∙ gone_pending s old.journal claims client id is.found.tick
+          ∙ gone_pending s old.journal claims client id is.found.tick is.found.offset
           ∙ sym (at_seen s taken old.journal new seen journal_is);
       last_is = last ∙ last_at s claims entries old desk old_seen
           ∙ ap (option_map shown)
-          (gone_last s old.journal claims client id is.found.tick is.found
+          (gone_last s old.journal claims client id is.found.tick is.found.offset is.found
           (one_of s claims old.journal (legal_at s claims entries old desk)) back.0 back.1 back.2)
           ∙ sym (last_seen s taken old.journal new seen journal_is);
       next_is =
@@ -286,45 +294,29 @@ gone_desk s claims client id entries after old new request tick made call desk i
             next,
             desk.next_is,
           ));
-      used_are =
-          sym (ap (places_used s) journal_is
-          ∙ omega (
-            arith,
-            sum_by-append (λ (c : JournalCall). places_of c.request) old.journal (taken ∷ []),
-            used,
-            desk.used_are,
-          ));
-      room = omega (arith, used, desk.room);
-      places = omega (
-        arith,
-        length-append entries made,
-        ap length after_is,
-        ap length is.made_is,
-        length-map (action_of is.found.request) (kept_entry s entries claims is.found.tick),
-        ap places_kept pending,
-        places_less id (item_of is.found) old.pending
-            (gone_item s claims client id entries old request tick made desk old_seen is),
-        used,
-        desk.places,
-      );
+      once =
+          subst IsHeldOnce (sym pending)
+          (once_filtered (λ (i : PendingItem). not (eqb id i.id)) old.pending desk.once);
     }
 
 gone_entries : (s : SetupParts) (claims client id : ℕ) {entries : List Entry} (list : List Entry)
-    (p : KeptParts) (request : Request) (tick : ℕ) (made : List Entry)
-    → (is : IsGone s claims client id p.journal entries request tick made)
-    → map (kept_entry s list claims is.found.tick) (action_of is.found.request)
-    ≡ call_entries s p.journal list (journal_call claims client 0 tick (Delete id))
-gone_entries s claims client id list p request tick made is =
-    ap (λ (t : ℕ). map (kept_entry s list claims t) (action_of is.found.request)) (sym is.tick_is)
+    (p : BookStateParts) (request : Request) (m : Moment) (made : List Entry)
+    → (is : IsGone s claims client id p.journal entries request m made)
+    → map (kept_entry s list claims is.found.tick is.found.offset) (action_of is.found.request)
+    ≡ call_entries s p.journal list (journal_call claims client 0 m.tick m.offset (Delete id))
+gone_entries s claims client id list p request m made is =
+    ap (λ (n : Moment). map (kept_entry s list claims n.tick n.offset) (action_of is.found.request))
+    (sym is.moment_is)
     ∙ ap (λ (o : Option JournalCall).
-    map (kept_entry s list claims tick) (option_map_or (λ c. action_of c.request) o [])) (sym is.is)
+    map (kept_entry s list claims m.tick m.offset) (option_map_or (λ c. action_of c.request) o [])) (sym is.is)
 
 -- what an accepted deletion makes
-pub gone_decided : (s : SetupParts) (claims client id : ℕ) (entries : List Entry) (p : KeptParts)
-    (request : Request) (tick : ℕ) (made : List Entry) (call : JournalCall)
+pub gone_decided : (s : SetupParts) (claims client id : ℕ) (entries : List Entry)
+    (p : BookStateParts)
+    (request : Request) (m : Moment) (made : List Entry) (call : JournalCall)
     → IsDesk s claims entries p → p.seen ≡ claims
-    → IsGone s claims client id p.journal entries request tick made
-    → call ≡ journal_call claims client 0 tick request
+    → IsGone s claims client id p.journal entries request m made
+    → call ≡ journal_call claims client 0 m.tick m.offset request
     → IsDecided s claims entries p client request (record {
       reply = Deleted id;
       made =
@@ -332,36 +324,50 @@ pub gone_decided : (s : SetupParts) (claims client id : ℕ) (entries : List Ent
             call = call;
             entries = made;
             item = None;
-            settling = record { takes = Some id; last = p.last; next = p.next; used = p.used };
+            places = 0;
+            settling = record { takes = Some id; last = p.last; next = p.next };
           });
     })
-gone_decided s claims client id entries p request tick made call desk at is call_is = record {
-  reply_is = sym (gone_reply s claims client id p.journal entries request tick made is);
+gone_decided s claims client id entries p request m made call desk at is call_is = record {
+  reply_is = sym (gone_reply s claims client id p.journal entries request m made is);
   call_is =
-      ap Some call_is ∙ sym (gone_call s claims client id p.journal entries request tick made is);
+      ap Some call_is ∙ sym (gone_call s claims client id p.journal entries request m made is);
   made_is =
       made_of s claims entries p (record {
         call = call;
         entries = made;
         item = None;
-        settling = record { takes = Some id; last = p.last; next = p.next; used = p.used };
+        places = 0;
+        settling = record { takes = Some id; last = p.last; next = p.next };
       })
       (ap (λ (c : JournalCall). c.at) call_is)
-      (is.made_is ∙ gone_entries s claims client id entries p request tick made is
+      (is.made_is ∙ gone_entries s claims client id entries p request m made is
       ∙ sym (ap (call_entries s p.journal entries)
-      (call_is ∙ ap (journal_call claims client 0 tick) is.asks)))
+      (call_is ∙ ap (journal_call claims client 0 m.tick m.offset) is.asks)))
       (is.made_is
-      ∙ kept_alike s p.from claims is.found.tick entries p.journal (action_of is.found.request)
+      ∙ kept_alike s p.from claims is.found.tick is.found.offset entries p.journal (action_of is.found.request)
       (has_outputs s desk.setup) desk.alike (since_at s claims entries p desk)
       (item_known s claims entries p id (item_of is.found) desk
       (sym (ap (option_map item_of) is.is)))
-      ∙ gone_entries s claims client id (entries_of s p.journal) p request tick made is
+      ∙ gone_entries s claims client id (entries_of s p.journal) p request m made is
       ∙ sym (ap (call_entries s p.journal (entries_of s p.journal))
-      (call_is ∙ ap (journal_call claims client 0 tick) is.asks)))
+      (call_is ∙ ap (journal_call claims client 0 m.tick m.offset) is.asks)))
       (gone_desk s claims client id entries (entries ++ made) p
       (settled (staged p call None)
-      (record { takes = Some id; last = p.last; next = p.next; used = p.used })) request tick made
+      (record { takes = Some id; last = p.last; next = p.next })) request m made
       call desk is call_is refl refl
       (ap (filter (λ (i : PendingItem). not (eqb id i.id))) (append-nil p.pending)) at at refl
-      refl refl refl);
+      refl refl)
+      (sym (ap places_of (ap (λ (c : JournalCall). c.request) call_is ∙ is.asks)))
+      (omega arith)
+      (omega (
+        arith,
+        ap length is.made_is,
+        length-map (action_of is.found.request)
+            (kept_entry s entries claims is.found.tick is.found.offset),
+        ap places_kept
+            (ap (filter (λ (i : PendingItem). not (eqb id i.id))) (append-nil p.pending)),
+        places_less id (item_of is.found) p.pending
+            (gone_item s claims client id entries p request m made desk at is),
+      ));
 }

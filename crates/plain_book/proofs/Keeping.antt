@@ -1,4 +1,9 @@
 -- What a book keeps, after an accepted call.
+use Rattle.map_entry.specs.Tick.{frame_key}
+use Rattle.plain_book.specs.Time.{key_at}
+use Rattle.plain_book.specs.Time.{land}
+use Rattle.plain_book.specs.Book.{landing_offset}
+use Rattle.std.proofs.Common.{◌^◌, ◌<◌}
 use Rattle.std.proofs.Common.{◌≡◌, ℕ, ◌+◌, ◌*◌, ◌≤◌, false, List, [], ◌∷◌, ◌++◌, length, map}
 use Rattle.std.proofs.Common.{Option, None, refl, sym, ap, ◌∙◌, subst, arith, length-append, Bool}
 use Rattle.std.proofs.Common.{true}
@@ -8,15 +13,14 @@ use Rattle.std.proofs.lemmas.Bool.{false_from_ne_true, false≢true}
 use Rattle.std.proofs.lemmas.List.{length-map}
 use Rattle.std.proofs.lemmas.List.Sums.{sum_by-append}
 use Rattle.std.specs.Prelude.{All, IsSome}
-use Rattle.io_caps.specs.declared.limits.TheConstants.{PLACES}
-use Rattle.map_entry.specs.Action.{OutputChangeParts}
+use Rattle.map_entry.specs.Action.{IsAction, OutputChangeParts}
 use Rattle.map_entry.specs.Entry.{IsEntryOk, due}
 use Rattle.map_entry.specs.Setup.{IsSetup, SetupParts}
 use Rattle.map_entry.specs.declared.entry.Entry.{Entry}
 use Rattle.plain_book.specs.Book.{call_of, landing_tick, refusal_of, reply_of}
 use Rattle.book_words.specs.Calls.{is_activation, is_later, journal_call}
-use Rattle.plain_book.specs.Desk.{IsDesk, KeptParts, item_above, last_behind, places_kept}
-use Rattle.plain_book.specs.Full.{places_each, places_of, places_used}
+use Rattle.plain_book.specs.Desk.{IsDesk, BookStateParts, item_above, last_behind}
+use Rattle.plain_book.specs.Places.{IsHeldOnce, places_each, places_kept}
 use Rattle.plain_book.specs.Journal.{call_entries, change_entry, entries_of}
 use Rattle.plain_book.specs.Legal.{IsAccepted, IsLegalJournal}
 use Rattle.plain_book.specs.Pending.{is_deleted, last_of, next_id, pending_of}
@@ -35,6 +39,7 @@ use Rattle.plain_book.proofs.Accepted.{called}
 use Rattle.plain_book.proofs.Alike.{all_more, alike_more, changes_alike, moved}
 use Rattle.plain_book.proofs.Commits.{legal_later, legal_more, new_last, new_pending, now_low}
 use Rattle.plain_book.proofs.Locks.{is_free}
+use Rattle.plain_book.proofs.Places.{once_above}
 use Rattle.plain_book.proofs.Sound.{entries_are}
 use Rattle.plain_book.proofs.Waiting.{HasIds, HasOutputs, begin_rises, ids}
 
@@ -42,29 +47,29 @@ pub has_outputs : (s : SetupParts) → IsSetup s → HasOutputs s
 has_outputs s checked = omega (arith, checked.device.bounds.some_output)
 
 -- what a book that has looked keeps to at these claims
-pub legal_at : (s : SetupParts) (claims : ℕ) (entries : List Entry) (p : KeptParts)
+pub legal_at : (s : SetupParts) (claims : ℕ) (entries : List Entry) (p : BookStateParts)
     → IsDesk s claims entries p
     → IsLegalJournal s claims p.journal
 legal_at s claims entries p desk = legal_later s p.seen claims p.journal desk.looked desk.legal
 
-pub since_at : (s : SetupParts) (claims : ℕ) (entries : List Entry) (p : KeptParts)
+pub since_at : (s : SetupParts) (claims : ℕ) (entries : List Entry) (p : BookStateParts)
     → IsDesk s claims entries p
     → p.from ≤ claims
 since_at s claims entries p desk = omega (arith, desk.since, desk.looked)
 
-pub pending_at : (s : SetupParts) (claims : ℕ) (entries : List Entry) (p : KeptParts)
+pub pending_at : (s : SetupParts) (claims : ℕ) (entries : List Entry) (p : BookStateParts)
     → IsDesk s claims entries p → p.seen ≡ claims
     → p.pending ≡ map item_of (pending_of s p.journal claims)
 pending_at s claims entries p desk at =
     desk.pending_are ∙ ap (λ (c : ℕ). map item_of (pending_of s p.journal c)) at
 
-pub last_at : (s : SetupParts) (claims : ℕ) (entries : List Entry) (p : KeptParts)
+pub last_at : (s : SetupParts) (claims : ℕ) (entries : List Entry) (p : BookStateParts)
     → IsDesk s claims entries p → p.seen ≡ claims
     → p.last ≡ option_map shown (last_of s p.journal claims)
 last_at s claims entries p desk at =
     desk.last_is ∙ ap (λ (c : ℕ). option_map shown (last_of s p.journal c)) at
 
-pub entries_since : (s : SetupParts) (claims since : ℕ) (entries : List Entry) (p : KeptParts)
+pub entries_since : (s : SetupParts) (claims since : ℕ) (entries : List Entry) (p : BookStateParts)
     → IsDesk s claims entries p → begin s p.from ≤ since
     → AreEntries s since entries
 entries_since s claims since entries p desk low = record {
@@ -77,7 +82,7 @@ entries_since s claims since entries p desk low = record {
 
 -- the entries of a legal journal, from a tick on
 pub entries_at : (s : SetupParts) (claims tick : ℕ) (journal : List JournalCall) → IsSetup s
-    → IsLegalJournal s claims journal → s.device.base ≤ tick
+    → IsLegalJournal s claims journal → key_at s s.device.base ≤ tick
     → AreEntries s tick (entries_of s journal)
 entries_at s claims tick journal is legal low =
     let whole = entries_are s claims journal is (has_outputs s is) legal in
@@ -87,7 +92,7 @@ entries_at s claims tick journal is legal low =
       cover = λ o t there le. whole.cover o t there (omega (arith, low, le));
     }
 
-pub desk_entries : (s : SetupParts) (claims : ℕ) (entries : List Entry) (p : KeptParts)
+pub desk_entries : (s : SetupParts) (claims : ℕ) (entries : List Entry) (p : BookStateParts)
     → IsDesk s claims entries p
     → AreEntries s (begin s claims) entries
 desk_entries s claims entries p desk =
@@ -99,47 +104,53 @@ desk_entries s claims entries p desk =
 reply_free : (s : SetupParts) (journal : List JournalCall) (claims : ℕ) (when : When)
     (action : List OutputChangeParts) → refusal_of s journal claims when action ≡ None
     → reply_of s journal claims (Activate when action)
-    ≡ accepted when (next_id journal) (landing_tick s claims when)
+    ≡ accepted when (next_id journal) (landing_tick s claims when) (landing_offset s claims when)
 unfolding reply_of
 reply_free s journal claims when action free =
     ap (λ (r : Option Refusal).
-    option_map_or Refused r (accepted when (next_id journal) (landing_tick s claims when))) free
+    option_map_or Refused r (accepted when (next_id journal) (landing_tick s claims when)
+    (landing_offset s claims when))) free
 
 pub record IsNew (s : SetupParts) (claims client : ℕ) (journal : List JournalCall)
-    (request : Request) (when : When) (action : List OutputChangeParts) (id tick : ℕ) : Type 0 where
+    (request : Request) (when : When) (action : List OutputChangeParts) (id tick offset : ℕ) : Type 0 where
   pub asks : request ≡ Activate when action
   pub free : refusal_of s journal claims when action ≡ None
   pub id_is : id ≡ next_id journal
-  pub lands : tick ≡ landing_tick s claims when
+  pub lands : frame_key tick offset ≡ land s claims when
+  pub few : offset < 2 ^ 16
+  pub ordered : IsAction action
 
 pub new_reply : (s : SetupParts) (claims client : ℕ) (journal : List JournalCall)
-    (request : Request) (when : When) (action : List OutputChangeParts) (id tick : ℕ)
-    → IsNew s claims client journal request when action id tick
-    → reply_of s journal claims request ≡ accepted when id tick
-new_reply s claims client journal request when action id tick is =
-    rw (is.asks, is.id_is, is.lands) (reply_free s journal claims when action is.free)
+    (request : Request) (when : When) (action : List OutputChangeParts) (id tick offset : ℕ)
+    → IsNew s claims client journal request when action id tick offset
+    → reply_of s journal claims request ≡ accepted when id tick offset
+new_reply s claims client journal request when action id tick offset is =
+    let tick : tick ≡ landing_tick s claims when = omega (arith, is.lands, is.few) in
+    let offset : offset ≡ landing_offset s claims when = omega (arith, is.lands, is.few) in
+    rw (is.asks, is.id_is, tick, offset) (reply_free s journal claims when action is.free)
 
 new_accepted : (s : SetupParts) (claims client : ℕ) (journal : List JournalCall) (request : Request)
-    (when : When) (action : List OutputChangeParts) (id tick : ℕ)
-    → IsNew s claims client journal request when action id tick
-    → IsAccepted s journal (journal_call claims client id tick request)
-new_accepted s claims client journal request when action id tick is =
+    (when : When) (action : List OutputChangeParts) (id tick offset : ℕ)
+    → IsNew s claims client journal request when action id tick offset
+    → IsAccepted s journal (journal_call claims client id tick offset request)
+new_accepted s claims client journal request when action id tick offset is =
     ap (call_of s journal client claims request)
-    (new_reply s claims client journal request when action id tick is)
-    ∙ called s journal client claims request when id tick
+    (new_reply s claims client journal request when action id tick offset is)
+    ∙ called s journal client claims request when id tick offset
 
-item_places : (key id tick : ℕ) (when : When) (action : List OutputChangeParts) (b : Bool)
-    → nat_lt key tick ≡ b → (is_later when ≡ false → b ≡ false)
-    → length action + places_kept (option_to_list (item_above key id when tick action))
+pub item_places : (key id tick offset : ℕ) (when : When) (action : List OutputChangeParts) (b : Bool)
+    → nat_lt key (frame_key tick offset) ≡ b → (is_later when ≡ false → b ≡ false)
+    → length action + places_kept (option_to_list (item_above key id when tick offset action))
     ≤ places_each when * length action
-item_places key id tick Now action true is none = absurd (false≢true (sym (none refl)))
-item_places key id tick Now action false is none = rw is (omega arith)
-item_places key id tick (At x) action true is none = rw is (omega arith)
-item_places key id tick (At x) action false is none = rw is (omega arith)
-item_places key id tick (After x) action true is none = rw is (omega arith)
-item_places key id tick (After x) action false is none = rw is (omega arith)
+item_places key id tick offset Now action true is none = absurd (false≢true (sym (none refl)))
+item_places key id tick offset Now action false is none = rw is (omega arith)
+item_places key id tick offset (At x) action true is none = rw is (omega arith)
+item_places key id tick offset (At x) action false is none = rw is (omega arith)
+item_places key id tick offset (After x) action true is none = rw is (omega arith)
+item_places key id tick offset (After x) action false is none = rw is (omega arith)
 
-pub at_seen : (s : SetupParts) (call : JournalCall) (journal : List JournalCall) (new : KeptParts)
+pub at_seen : (s : SetupParts) (call : JournalCall) (journal : List JournalCall)
+    (new : BookStateParts)
     → {claims : ℕ} → new.seen ≡ claims → new.journal ≡ journal ++ call ∷ []
     → map item_of (pending_of s new.journal new.seen)
     ≡ map item_of (pending_of s (journal ++ call ∷ []) claims)
@@ -147,7 +158,8 @@ at_seen s call journal new seen is =
     ap (λ (j : List JournalCall). map item_of (pending_of s j new.seen)) is
     ∙ ap (λ (c : ℕ). map item_of (pending_of s (journal ++ call ∷ []) c)) seen
 
-pub last_seen : (s : SetupParts) (call : JournalCall) (journal : List JournalCall) (new : KeptParts)
+pub last_seen : (s : SetupParts) (call : JournalCall) (journal : List JournalCall)
+    (new : BookStateParts)
     → {claims : ℕ} → new.seen ≡ claims → new.journal ≡ journal ++ call ∷ []
     → option_map shown (last_of s new.journal new.seen)
     ≡ option_map shown (last_of s (journal ++ call ∷ []) claims)
@@ -156,25 +168,25 @@ last_seen s call journal new seen is =
     ∙ ap (λ (c : ℕ). option_map shown (last_of s (journal ++ call ∷ []) c)) seen
 
 pub new_desk : (s : SetupParts) (claims client : ℕ) (entries after : List Entry)
-    (old new : KeptParts) (when : When) (action : List OutputChangeParts) (request : Request)
-    (id tick : ℕ) (call : JournalCall) (made : List Entry) (item : Option PendingItem)
-    → IsDesk s claims entries old → IsNew s claims client old.journal request when action id tick
-    → call ≡ journal_call claims client id tick request
-    → made ≡ map (change_entry s entries claims tick action) action
-    → item ≡ item_above (begin s claims) id when tick action
+    (old new : BookStateParts) (when : When) (action : List OutputChangeParts) (request : Request)
+    (id tick offset : ℕ) (call : JournalCall) (made : List Entry) (item : Option PendingItem)
+    → IsDesk s claims entries old → IsNew s claims client old.journal request when action id tick offset
+    → call ≡ journal_call claims client id tick offset request
+    → made ≡ map (change_entry s entries claims tick offset action) action
+    → item ≡ item_above (begin s claims) id when tick offset action
     → new.journal ≡ old.journal ++ call ∷ [] → after ≡ entries ++ made
     → new.pending ≡ old.pending ++ option_to_list item → old.seen ≡ claims → new.seen ≡ claims
-    → new.last ≡ last_behind (begin s claims) id when tick old.last → new.from ≡ old.from
-    → new.next ≡ id + 1 → new.used ≡ old.used + places_each when * length action → new.used ≤ PLACES
+    → new.last ≡ last_behind (begin s claims) id when tick offset old.last → new.from ≡ old.from
+    → new.next ≡ id + 1
     → IsDesk s claims after new
-new_desk s claims client entries after old new when action request id tick call made item desk is
-    call_is made_is item_is journal after_is pending old_seen seen last from next used room =
-    let whole : call ≡ journal_call claims client id tick (Activate when action) =
-    call_is ∙ ap (journal_call claims client id tick) is.asks in
+new_desk s claims client entries after old new when action request id tick offset call made item desk is
+    call_is made_is item_is journal after_is pending old_seen seen last from next =
+    let whole : call ≡ journal_call claims client id tick offset (Activate when action) =
+    call_is ∙ ap (journal_call claims client id tick offset) is.asks in
     let journal_is : new.journal
-    ≡ old.journal ++ journal_call claims client id tick (Activate when action) ∷ [] =
+    ≡ old.journal ++ journal_call claims client id tick offset (Activate when action) ∷ [] =
     journal ∙ ap (λ (c : JournalCall). old.journal ++ c ∷ []) whole in
-    let taken : JournalCall = journal_call claims client id tick (Activate when action) in
+    let taken : JournalCall = journal_call claims client id tick offset (Activate when action) in
     let known : HasIds old.journal =
     ids s claims old.journal (legal_at s claims entries old desk) in
     let fresh : is_deleted old.journal id ≡ false =
@@ -182,13 +194,13 @@ new_desk s claims client entries after old new when action request id tick call 
     (λ h. let low = known.deleted id h in omega (arith, low, is.id_is)) in
     let legal : IsLegalJournal s claims (old.journal ++ taken ∷ []) =
     legal_more s claims old.journal taken (legal_at s claims entries old desk)
-    (subst (λ (r : Request). IsAccepted s old.journal (journal_call claims client id tick r))
-    is.asks (new_accepted s claims client old.journal request when action id tick is)) refl in
+    (subst (λ (r : Request). IsAccepted s old.journal (journal_call claims client id tick offset r))
+    is.asks (new_accepted s claims client old.journal request when action id tick offset is)) refl in
     let whole_are =
     entries_are s claims (old.journal ++ taken ∷ []) desk.setup (has_outputs s desk.setup) legal in
     let made_alike : made ≡ call_entries s old.journal (entries_of s old.journal) taken =
     made_is
-    ∙ changes_alike s old.from claims tick entries old.journal action (has_outputs s desk.setup)
+    ∙ changes_alike s old.from claims tick offset entries old.journal action (has_outputs s desk.setup)
     desk.alike (since_at s claims entries old desk)
     (is_free s old.journal claims when action is.free).known in
     record {
@@ -211,15 +223,15 @@ new_desk s claims client entries after old new when action request id tick call 
       pending_are =
           pending ∙ ap (λ (o : Option PendingItem). old.pending ++ option_to_list o) item_is
           ∙ ap (λ (is : List PendingItem).
-          is ++ option_to_list (item_above (begin s claims) id when tick action))
+          is ++ option_to_list (item_above (begin s claims) id when tick offset action))
           (pending_at s claims entries old desk old_seen)
-          ∙ new_pending s old.journal claims client id tick when action fresh is.lands
+          ∙ new_pending s old.journal claims client id tick offset when action fresh is.lands
           ∙ sym (at_seen s taken old.journal new seen journal_is);
       last_is =
           last
-          ∙ ap (last_behind (begin s claims) id when tick)
+          ∙ ap (last_behind (begin s claims) id when tick offset)
           (last_at s claims entries old desk old_seen)
-          ∙ new_last s old.journal claims client id tick when action fresh is.lands
+          ∙ new_last s old.journal claims client id tick offset when action fresh is.lands
           ∙ sym (last_seen s taken old.journal new seen journal_is);
       next_is =
           sym (ap next_id journal_is
@@ -230,27 +242,11 @@ new_desk s claims client entries after old new when action request id tick call 
             next,
             is.id_is,
           ));
-      used_are =
-          sym (ap (places_used s) journal_is
-          ∙ omega (
-            arith,
-            sum_by-append (λ (c : JournalCall). places_of c.request) old.journal (taken ∷ []),
-            used,
-            desk.used_are,
-          ));
-      room = room;
-      places = omega (
-        arith,
-        length-append entries made,
-        ap length after_is,
-        ap length made_is,
-        length-map action (change_entry s entries claims tick action),
-        ap places_kept pending,
-        sum_by-append (λ (i : PendingItem). length i.action) old.pending (option_to_list item),
-        ap (λ (o : Option PendingItem). places_kept (option_to_list o)) item_is,
-        item_places (begin s claims) id tick when action (nat_lt (begin s claims) tick) refl
-            (now_low s claims tick when is.lands),
-        used,
-        desk.places,
-      );
+      once =
+          subst IsHeldOnce
+          (sym (pending ∙ ap (λ (o : Option PendingItem). old.pending ++ option_to_list o) item_is))
+          (once_above s old.journal claims (begin s claims) id tick offset when action old.pending
+          (nat_lt (begin s claims) (frame_key tick offset)) refl desk.once
+          (pending_at s claims entries old desk old_seen)
+          is.ordered (is_free s old.journal claims when action is.free).unlocked);
     }

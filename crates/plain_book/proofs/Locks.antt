@@ -9,7 +9,6 @@ use Rattle.map_entry.specs.Setup.{SetupParts}
 use Rattle.plain_book.specs.Book.{bad_channel_by, bad_row_by, empty_by, first_some, locked_at}
 use Rattle.plain_book.specs.Book.{locked_by, refusal_of, time_by, unknown_by}
 use Rattle.book_words.specs.Calls.{names_output}
-use Rattle.plain_book.specs.Full.{full_by}
 use Rattle.plain_book.specs.Legal.{IsAccepted, IsLegalJournal}
 use Rattle.plain_book.specs.Pending.{is_locked, is_pending, pending_of}
 use Rattle.book_words.specs.declared.calls.JournalCall.{JournalCall}
@@ -30,7 +29,6 @@ pub record IsFree (s : SetupParts) (before : List JournalCall) (claims : ℕ) (w
   pub unlocked : locked_by s before claims action ≡ None
   pub rows : bad_row_by s before claims action ≡ None
   pub in_time : time_by s claims when ≡ None
-  pub room : full_by s before when action ≡ None
 
 pub is_free : (s : SetupParts) (before : List JournalCall) (claims : ℕ) (when : When)
     (action : List OutputChangeParts) → refusal_of s before claims when action ≡ None
@@ -41,15 +39,13 @@ is_free s before claims when action e =
     let e2 = option_or-second _ _ e1 in
     let e3 = option_or-second _ _ e2 in
     let e4 = option_or-second _ _ e3 in
-    let e5 = option_or-second _ _ e4 in
     record {
       some = option_or-first _ _ e;
       known = option_or-first _ _ e1;
       channels = option_or-first _ _ e2;
       unlocked = option_or-first _ _ e3;
       rows = option_or-first _ _ e4;
-      in_time = option_or-first _ _ e5;
-      room = option_or-second _ _ e5;
+      in_time = option_or-second _ _ e4;
     }
 
 pub first_none : {X Y : Type 0} (f : X → Option Y) (xs : List X) (x : X) → first_some f xs ≡ None

@@ -13,7 +13,6 @@ use Rattle.plain_book.specs.Book.{first_some, locked_at, refusal_of}
 use Rattle.book_words.specs.Calls.{call_due, is_activation, is_scheduled}
 use Rattle.plain_book.specs.Desk.{held_at, holds_item, is_above, item_at, later_item, latest_item}
 use Rattle.plain_book.specs.Desk.{refusal_from}
-use Rattle.plain_book.specs.Full.{places_used}
 use Rattle.plain_book.specs.Journal.{entries_of}
 use Rattle.plain_book.specs.Legal.{IsAccepted, IsLegalJournal}
 use Rattle.plain_book.specs.Pending.{is_active, is_deleted, is_locked, is_pending, last_of, later}
@@ -301,7 +300,7 @@ last_later s journal seen claims some legal le =
 
 -- ---- what a book finds
 
-any_map : {X Y : Type 0} (p : Y → Bool) (f : X → Y) (xs : List X)
+pub any_map : {X Y : Type 0} (p : Y → Bool) (f : X → Y) (xs : List X)
     → list_any p (map f xs) ≡ list_any (λ x. p (f x)) xs
 any_map p f [] = refl
 any_map p f (x ∷ xs) = ap (λ (b : Bool). p (f x) || b) (any_map p f xs)
@@ -335,8 +334,8 @@ first_same f g same (x ∷ xs) = rw (same x, first_same f g same xs) refl
 -- a book finds the refusal
 pub refusal_is : (s : SetupParts) (journal : List JournalCall) (claims : ℕ) (when : When)
     (action : List OutputChangeParts)
-    → refusal_from s (entries_of s journal) (map item_of (pending_of s journal claims))
-    (places_used s journal) claims when action
+    → refusal_from s (entries_of s journal) (map item_of (pending_of s journal claims)) claims when
+    action
     ≡ refusal_of s journal claims when action
 unfolding refusal_from refusal_of
 refusal_is s journal claims when action =

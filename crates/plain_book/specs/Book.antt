@@ -11,6 +11,7 @@ use Rattle.map_entry.specs.declared.entry.Entry.{Entry}
 use Rattle.map_entry.specs.Action.{OutputChangeParts, applied}
 use Rattle.map_entry.specs.Row.{channels_of_output, row_fault}
 use Rattle.map_entry.specs.Setup.{SetupParts}
+use Rattle.map_entry.specs.Tick.{tick_in, frame_in}
 use Rattle.book_words.specs.declared.calls.JournalCall.{JournalCall}
 use Rattle.book_words.specs.declared.requests.When.{When}
 use Rattle.book_words.specs.declared.requests.Request.{Request}
@@ -26,10 +27,9 @@ use Rattle.book_words.specs.declared.replies.Reply.TheVariants.{Activated, Sched
 use Rattle.book_words.specs.declared.replies.Reply.TheVariants.{Active, Pending, Refused}
 use Rattle.book_words.specs.Calls.{journal_call}
 use Rattle.book_words.specs.Replies.{accepted, active_view, item_of, shown}
-use Rattle.plain_book.specs.Time.{land, is_time_over, tick_in}
+use Rattle.plain_book.specs.Time.{land, is_time_over}
 use Rattle.plain_book.specs.Journal.{entries_of, row_from}
 use Rattle.plain_book.specs.Pending.{next_id, pending_of, pending_call, is_locked, last_of}
-use Rattle.plain_book.specs.Full.{full_by}
 
 -- ---- refusals of an activation. Each kind is told of the lowest output, and then of the lowest
 -- channel: outputs and channels of an action ascend, so it is the first.
@@ -100,9 +100,7 @@ refusal_of s journal claims when action =
     (option_or (unknown_by s.device action)
     (option_or (bad_channel_by s.device action)
     (option_or (locked_by s journal claims action)
-    (option_or (bad_row_by s journal claims action)
-    (option_or (time_by s claims when)
-    (full_by s journal when action))))))
+    (option_or (bad_row_by s journal claims action) (time_by s claims when)))))
 
 -- ---- replies
 
@@ -114,15 +112,19 @@ view_of s journal claims =
     (map (λ output. row_from s (entries_of s journal) output claims)
     (range_with_len 0 (length s.device.outputs)))
 
--- the tick that an accepted activation is told
+-- the tick that an accepted activation is told, and which of its frames
 abbrev pub landing_tick : SetupParts → ℕ → When → ℕ
-landing_tick s claims when = tick_in s (land s claims when)
+landing_tick s claims when = tick_in (land s claims when)
+
+-- the frame of that tick
+abbrev pub landing_offset : SetupParts → ℕ → When → ℕ
+landing_offset s claims when = frame_in (land s claims when)
 
 -- the book's reply to a request at a journal and a number of claims
 unfoldable pub reply_of : SetupParts → List JournalCall → ℕ → Request → Reply
 reply_of s journal claims (Activate when action) =
     option_map_or Refused (refusal_of s journal claims when action)
-    (accepted when (next_id journal) (landing_tick s claims when))
+    (accepted when (next_id journal) (landing_tick s claims when) (landing_offset s claims when))
 reply_of s journal claims (Delete id) =
     option_map_or (λ call. Deleted id) (pending_call s journal claims id) (Refused (NotPending id))
 reply_of s journal claims AskActive = Active (view_of s journal claims)
@@ -132,14 +134,15 @@ reply_of s journal claims AskPending = Pending (map item_of (pending_of s journa
 
 -- the call that deletes another: it has no id, and counts from where the other would have counted
 abbrev pub deletion : ℕ → ℕ → Request → JournalCall → JournalCall
-deletion client claims request call = journal_call claims client 0 call.tick request
+deletion client claims request call =
+    journal_call claims client 0 call.tick call.offset request
 
 -- the call that a request becomes by its reply, where that accepts it
 abbrev pub call_of : SetupParts → List JournalCall → ℕ → ℕ → Request → Reply → Option JournalCall
-call_of s journal client claims request (Activated id tick) =
-    Some (journal_call claims client id tick request)
-call_of s journal client claims request (Scheduled id tick) =
-    Some (journal_call claims client id tick request)
+call_of s journal client claims request (Activated id tick offset) =
+    Some (journal_call claims client id tick offset request)
+call_of s journal client claims request (Scheduled id tick offset) =
+    Some (journal_call claims client id tick offset request)
 call_of s journal client claims request (Deleted id) =
     option_map (deletion client claims request) (pending_call s journal claims id)
 call_of s journal client claims request (Active view) = None

@@ -1,10 +1,11 @@
 pub mod Book
 pub mod Carry
 pub mod Desk
-pub mod Full
+pub mod Places
 pub mod Given
 pub mod Journal
 pub mod Legal
+pub mod Moments
 pub mod Pending
 pub mod Rows
 pub mod Ruling

@@ -3,29 +3,30 @@
 ghost use Rattle.std.specs.Prelude.{◌≡◌, ◌<◌, ◌≤◌, ◌+◌, ◌*◌, false, IfOk, IfNone, None, length};
 ghost use Rattle.std.specs.Prelude.{option_map};
 ghost use Rattle.std.specs.Option.{option_copied};
-ghost use Rattle.io_caps.specs.declared.limits.TheConstants.{PLACES};
 ghost use Rattle.map_entry.specs.declared.claims.TheConstants.{CLAIMS_LIMIT};
-ghost use Rattle.plain_book.specs.Book.{refusal_of};
+ghost use Rattle.map_entry.specs.Action.{IsAction};
+ghost use Rattle.map_entry.specs.Tick.{frame_key};
+ghost use Rattle.plain_book.specs.Book.{refusal_of, unknown_by};
 ghost use Rattle.plain_book.specs.Desk.{IsDecided, IsDesk, IsOpen, item_above, item_at};
 ghost use Rattle.plain_book.specs.Desk.{last_behind, parts, refusal_from, taken_by};
-ghost use Rattle.plain_book.specs.Full.{full_from, places_each};
+ghost use Rattle.plain_book.specs.Moments.{moment_key};
+ghost use Rattle.plain_book.specs.Places.{places_each};
 ghost use Rattle.plain_book.specs.Pending.{pending_call};
 ghost use Rattle.book_words.specs.Replies.{accepted};
 ghost use Rattle.plain_book.specs.Rows.{AreEntries};
-ghost use Rattle.plain_book.specs.Time.{begin, is_over_from, land, land_from};
+ghost use Rattle.plain_book.specs.Time.{is_over_from, land, land_from, tick_after};
 ghost use Rattle.book_words.specs.declared.requests.Request.TheVariants.{Activate, Delete};
 
-use crate::moments::{first_after, land};
+use crate::moments::{Moment, first_after, land};
 use crate::refusals::{bad_channel, empty, locked, unknown};
 use crate::rows::{Moments, bad_row, push_changes, push_kept};
 use crate::shows::{show_active, show_pending};
 use crate::{
-    Activation, Decided, JournalCall, Kept, Made, PendingItem, Refusal, Reply, Request, Settling,
-    When,
+    Acceptance, Activation, BookState, Decision, JournalCall, PendingItem, Refusal, Reply, Request,
+    StateChange, When,
 };
-use io_caps::limits::PLACES;
 use io_caps::{NoMemory, TryCopy};
-use map_entry::{Action, Entries, Entry, Setup};
+use map_entry::{Action, Entries, Entry, Setup, has_come};
 use std::alloc::Global;
 
 /// The places of each output that an activation names.
@@ -40,17 +41,15 @@ fn places_each(when: &When) -> u64
     }
 }
 
-/// Whether there are no places left for an action.
-fn full(used: u64, each: u64, action: &Action) -> Option<Refusal>
-    requires few { used ≤ PLACES }
-    ensures { result ≡ full_from used each action.now }
+/// The places of an action whose outputs are there.
+fn places(setup: &Setup, when: &When, action: &Action) -> u64
+    requires { unknown_by setup.now.device action.now ≡ None }
+    ensures value { result ≡ places_each when.now * length action.now }
+    ensures few { result ≤ 2 * length setup.now.device.outputs }
+    ensures ordered { IsAction action.now }
 {
-    let needed = u128::from(each) * (action.len() as u128);
-    if u128::from(PLACES) < u128::from(used) + needed {
-        Some(Refusal::Full)
-    } else {
-        None
-    }
+    let _device = &setup.device;
+    places_each(when) * action.len() as u64
 }
 
 /// The first refusal of an activation that applies.
@@ -59,16 +58,15 @@ fn refusal(
     alloc: Global,
     setup: &Setup,
     entries: &[Entry],
-    kept: &Kept,
+    kept: &BookState,
     moments: Moments,
     when: &When,
     action: &Action,
 ) -> Result<Option<Refusal>, NoMemory>
-    requires entries { AreEntries setup.now moments.first entries.now }
-    requires first { moments.first ≡ begin setup.now moments.claims }
-    requires room { kept.now.used ≤ PLACES }
+    requires entries { AreEntries setup.now (frame_key moments.first 0) entries.now }
+    requires first { moments.first ≡ tick_after setup.now moments.claims }
     ensures value { IfOk result (λ r. r ≡ refusal_from setup.now entries.now kept.now.pending.items
-        kept.now.used moments.claims when.now action.now) }
+        moments.claims when.now action.now) }
     ensures open { IfOk result (λ r. IfNone r (IsOpen setup.now action.now)) }
 {
     let changes = action.as_slice();
@@ -91,7 +89,7 @@ fn refusal(
     }
     match land(setup, moments.first, when) {
         None => Ok(Some(Refusal::Time)),
-        Some(_) => Ok(full(kept.used, places_each(when), action)),
+        Some(_) => Ok(None),
     }
 }
 
@@ -110,12 +108,12 @@ fn item(
     when: &When,
     action: &Action,
 ) -> Result<Option<PendingItem>, NoMemory>
-    ensures { IfOk result (λ made. made ≡ item_above moments.first id when.now moments.tick
-        action.now) }
+    ensures { IfOk result (λ made. made ≡ item_above (frame_key moments.first 0) id when.now moments.tick
+        moments.offset action.now) }
 {
-    if moments.first < moments.tick {
+    if !has_come(moments.tick, moments.offset, moments.first, 0) {
         let action = action.copy()?;
-        Ok(Some(PendingItem::new(id, *when, moments.tick, action)))
+        Ok(Some(PendingItem::new(id, *when, moments.tick, moments.offset, action)))
     } else {
         Ok(None)
     }
@@ -128,22 +126,23 @@ fn last_behind(
     when: &When,
     last: Option<Activation>,
 ) -> Option<Activation>
-    ensures { result ≡ last_behind moments.first id when.now moments.tick last }
+    ensures { result ≡ last_behind (frame_key moments.first 0) id when.now moments.tick
+        moments.offset last }
 {
-    if moments.first < moments.tick {
+    if !has_come(moments.tick, moments.offset, moments.first, 0) {
         last
     } else {
-        Some(Activation::new(id, *when, moments.tick))
+        Some(Activation::new(id, *when, moments.tick, moments.offset))
     }
 }
 
-fn accepted(when: &When, id: u64, tick: u64) -> Reply
-    ensures { result ≡ accepted when.now id tick }
+fn accepted(when: &When, id: u64, tick: u64, offset: u16) -> Reply
+    ensures { result ≡ accepted when.now id tick offset }
 {
     match when {
-        When::Now => Reply::Activated { id, tick },
-        When::At(_) => Reply::Scheduled { id, tick },
-        When::After(_) => Reply::Scheduled { id, tick },
+        When::Now => Reply::Activated { id, tick, offset },
+        When::At(_) => Reply::Scheduled { id, tick, offset },
+        When::After(_) => Reply::Scheduled { id, tick, offset },
     }
 }
 
@@ -152,22 +151,22 @@ fn accept(
     alloc: Global,
     setup: &Setup,
     entries: &[Entry],
-    kept: &Kept,
+    kept: &BookState,
     moments: Moments,
     client: u8,
     request: &Request,
     when: &When,
     action: &Action,
-) -> Result<Decided, NoMemory>
+) -> Result<Decision, NoMemory>
     requires asks { request.now ≡ Activate when.now action.now }
     requires desk { IsDesk setup.now moments.claims entries.now (parts kept.now) }
     requires looked { kept.now.seen ≡ moments.claims }
     requires free { refusal_of setup.now kept.now.journal moments.claims when.now action.now
         ≡ None }
     requires open { IsOpen setup.now action.now }
-    requires first { moments.first ≡ begin setup.now moments.claims }
-    requires lands { moments.tick ≡ land setup.now moments.claims when.now }
-    requires places { kept.now.used + places_each when.now * length action.now ≤ PLACES }
+    requires first { moments.first ≡ tick_after setup.now moments.claims }
+    requires lands { frame_key moments.tick moments.offset
+        ≡ land setup.now moments.claims when.now }
     ensures { IfOk result (IsDecided setup.now moments.claims entries.now (parts kept.now) client
         request.now) }
 {
@@ -176,7 +175,7 @@ fn accept(
         Some(next) => next,
         None => return Err(NoMemory),
     };
-    let used = kept.used + places_each(when) * action.len() as u64;
+    let places = places(setup, when, action);
     let mut new = Entries::new(alloc);
     push_changes(
         alloc,
@@ -188,54 +187,65 @@ fn accept(
         &mut new,
     )?;
     let item = item(moments, id, when, action)?;
-    let call = JournalCall::new(moments.claims, client, id, moments.tick, request.copy()?);
-    let reply = accepted(when, id, moments.tick);
-    let settling = Settling {
+    let call = JournalCall::new(
+        moments.claims,
+        client,
+        id,
+        moments.tick,
+        moments.offset,
+        request.copy()?,
+    );
+    let reply = accepted(when, id, moments.tick, moments.offset);
+    let settling = StateChange {
         takes: None,
         last: last_behind(moments, id, when, kept.last),
         next,
-        used,
     };
-    let made = Made {
+    let made = Acceptance {
         call,
         entries: new,
         item,
+        places,
         settling,
     };
-    Ok(Decided {
+    Ok(Decision {
         reply,
         made: Some(made),
     })
 }
 
-/// The tick of the pending activation of an id, with the entries that keep its outputs' rows.
+/// From when the pending activation of an id counts, with the entries that keep its outputs' rows.
 fn taken(
     alloc: Global,
     setup: &Setup,
     entries: &[Entry],
-    kept: &Kept,
+    kept: &BookState,
     claims: u64,
     first: u64,
     id: u64,
-) -> Result<Option<(u64, Entries)>, NoMemory>
+) -> Result<Option<(Moment, Entries)>, NoMemory>
     requires desk { IsDesk setup.now claims entries.now (parts kept.now) }
     requires looked { kept.now.seen ≡ claims }
-    requires first { first ≡ begin setup.now claims }
+    requires first { first ≡ tick_after setup.now claims }
     ensures { IfOk result (λ made. made ≡ option_map (taken_by setup.now entries.now claims)
         (pending_call setup.now kept.now.journal claims id)) }
 {
     match find_item(kept.pending.as_slice(), id) {
         None => Ok(None),
         Some(item) => {
-            let tick = item.tick;
+            let Moment { tick, offset } = Moment {
+                tick: item.tick,
+                offset: item.offset,
+            };
             let moments = Moments {
                 claims,
                 first,
                 tick,
+                offset,
             };
             let mut made = Entries::new(alloc);
             push_kept(setup, entries, moments, item.action.as_slice(), &mut made)?;
-            Ok(Some((tick, made)))
+            Ok(Some((Moment { tick, offset }, made)))
         }
     }
 }
@@ -245,17 +255,17 @@ fn delete(
     alloc: Global,
     setup: &Setup,
     entries: &[Entry],
-    kept: &Kept,
+    kept: &BookState,
     claims: u64,
     first: u64,
     client: u8,
     request: &Request,
     id: u64,
-) -> Result<Decided, NoMemory>
+) -> Result<Decision, NoMemory>
     requires asks { request.now ≡ Delete id }
     requires desk { IsDesk setup.now claims entries.now (parts kept.now) }
     requires looked { kept.now.seen ≡ claims }
-    requires first { first ≡ begin setup.now claims }
+    requires first { first ≡ tick_after setup.now claims }
     ensures { IfOk result (IsDecided setup.now claims entries.now (parts kept.now) client
         request.now) }
 {
@@ -263,24 +273,25 @@ fn delete(
         None => {
             let reply = Reply::Refused(Refusal::NotPending { id });
             let made = None;
-            Ok(Decided { reply, made })
+            Ok(Decision { reply, made })
         }
-        Some((tick, new)) => {
-            let call = JournalCall::new(claims, client, 0, tick, request.copy()?);
-            let settling = Settling {
+        Some((moment, new)) => {
+            let Moment { tick, offset } = moment;
+            let call = JournalCall::new(claims, client, 0, tick, offset, request.copy()?);
+            let settling = StateChange {
                 takes: Some(id),
                 last: kept.last,
                 next: kept.next,
-                used: kept.used,
             };
             let item = None;
-            let made = Made {
+            let made = Acceptance {
                 call,
                 entries: new,
                 item,
+                places: 0,
                 settling,
             };
-            Ok(Decided {
+            Ok(Decision {
                 reply: Reply::Deleted { id },
                 made: Some(made),
             })
@@ -288,15 +299,15 @@ fn delete(
     }
 }
 
-/// The tick from which an activation counts that is not past the end of time.
-fn landed(setup: &Setup, first: u64, when: &When) -> u64
+/// From when an activation counts that is not past the end of time.
+fn landed(setup: &Setup, first: u64, when: &When) -> Moment
     requires { is_over_from setup.now first when.now ≡ false }
-    ensures { result ≡ land_from setup.now first when.now }
+    ensures { moment_key result ≡ land_from setup.now first when.now }
 {
     match land(setup, first, when) {
-        Some(tick) => tick,
+        Some(moment) => moment,
         // It was seen to have a start.
-        None => first,
+        None => Moment::begin(first),
     }
 }
 
@@ -305,18 +316,18 @@ fn activate(
     alloc: Global,
     setup: &Setup,
     entries: &[Entry],
-    kept: &Kept,
+    kept: &BookState,
     claims: u64,
     first: u64,
     client: u8,
     request: &Request,
     when: &When,
     action: &Action,
-) -> Result<Decided, NoMemory>
+) -> Result<Decision, NoMemory>
     requires asks { request.now ≡ Activate when.now action.now }
     requires desk { IsDesk setup.now claims entries.now (parts kept.now) }
     requires looked { kept.now.seen ≡ claims }
-    requires first { first ≡ begin setup.now claims }
+    requires first { first ≡ tick_after setup.now claims }
     ensures { IfOk result (IsDecided setup.now claims entries.now (parts kept.now) client
         request.now) }
 {
@@ -324,19 +335,21 @@ fn activate(
         claims,
         first,
         tick: first,
+        offset: 0,
     };
     match refusal(alloc, setup, entries, kept, moments, when, action)? {
         Some(refusal) => {
             let reply = Reply::Refused(refusal);
             let made = None;
-            Ok(Decided { reply, made })
+            Ok(Decision { reply, made })
         }
         None => {
-            let tick = landed(setup, first, when);
+            let Moment { tick, offset } = landed(setup, first, when);
             let moments = Moments {
                 claims,
                 first,
                 tick,
+                offset,
             };
             accept(
                 alloc, setup, entries, kept, moments, client, request, when, action,
@@ -351,11 +364,11 @@ pub fn decide(
     alloc: Global,
     setup: &Setup,
     entries: &[Entry],
-    kept: &Kept,
+    kept: &BookState,
     claims: u64,
     client: u8,
     request: &Request,
-) -> Result<Decided, NoMemory>
+) -> Result<Decision, NoMemory>
     requires desk { IsDesk setup.now claims entries.now (parts kept.now) }
     requires looked { kept.now.seen ≡ claims }
     requires claims { claims < CLAIMS_LIMIT }
@@ -375,12 +388,12 @@ pub fn decide(
         Request::Active => {
             let reply = show_active(alloc, setup, entries, kept, claims, first)?;
             let made = None;
-            Ok(Decided { reply, made })
+            Ok(Decision { reply, made })
         }
         Request::Pending => {
             let reply = show_pending(alloc, kept)?;
             let made = None;
-            Ok(Decided { reply, made })
+            Ok(Decision { reply, made })
         }
     }
 }

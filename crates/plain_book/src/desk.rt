@@ -1,20 +1,26 @@
 //! Books that are asked: the trait of whoever is asked, and the book on one thread.
 
-ghost use Rattle.std.specs.Prelude.{◌≡◌, ◌+◌, ◌<◌, ◌≤◌, ◌++◌, ◌∷◌, List, [], ℕ, IfOk, OnOk, OnErr};
+ghost use Rattle.std.specs.Prelude.{◌≡◌, ◌+◌, ◌*◌, ◌<◌, ◌≤◌, ◌++◌, ◌∷◌, List, [], ℕ, IfOk, OnOk, OnErr};
 ghost use Rattle.std.specs.Prelude.{Some, length};
 ghost use Rattle.map_entry.specs.Entry.{selected};
 ghost use Rattle.map_entry.specs.Row.{IsRowOf};
 ghost use Rattle.map_entry.specs.Setup.{SetupParts};
+ghost use Rattle.map_entry.specs.Tick.{position_key};
 ghost use Rattle.map_entry.specs.declared.claims.TheConstants.{CLAIMS_LIMIT};
 ghost use Rattle.plain_book.specs.Desk.{IsAnswer, IsAsked, IsDesk, IsMade, desk_parts, parts};
 ghost use Rattle.plain_book.specs.Journal.{base_entries, entries_of};
 ghost use Rattle.plain_book.specs.Legal.{IsLegalJournal};
+ghost use Rattle.plain_book.specs.Rows.{AreEntries};
+ghost use Rattle.plain_book.specs.Time.{key_at};
 ghost use Rattle.book_words.specs.declared.calls.JournalCall.{JournalCall};
+ghost use Rattle.book_words.specs.declared.replies.Reply.{Reply};
+ghost use Rattle.book_words.specs.declared.requests.Request.{Request};
+ghost use Rattle.book_words.specs.declared.requests.Stamp.{Stamp};
 
 use crate::decisions::decide;
-use crate::kept::{Decided, Kept, Made, look, settle, stage};
+use crate::kept::{Acceptance, BookState, Decision, look, settle, stage};
 use crate::moments::first_after;
-use crate::rows::row;
+use crate::rows::row_at;
 use crate::ruling::prune;
 use crate::{Journal, Reply, Request, Stamp};
 use io_caps::{NoMemory, TryCopy};
@@ -30,27 +36,34 @@ pub trait Desk {
     /// The calls that it accepted.
     ghost journal: { Self → List JournalCall };
 
-    /// That it may be asked for a client.
+    /// That it may be asked for a client. An answer uses this up: whether it may be asked again
+    /// after one, only what it tells of the answer can say.
     ghost ready: { Self → ℕ → Type 0 };
 
     /// The names of the book and of the client's pass that it was lent, where it was lent them.
     ghost lent: { Self → ℕ × ℕ };
 
-    /// What an ask keeps of what it was lent.
+    /// What an ask keeps of what it was lent, with and without an answer.
     ghost keeps: { Self → Self → Type 0 };
 
-    /// At which numbers of claims it may answer.
-    ghost answers_at: { Self → ℕ → Type 0 };
+    /// What it tells of an answer: as it was before and after, the client, the request, the reply
+    /// and its place.
+    ghost tells: { Self → Self → ℕ → Request → Reply → Stamp → Type 0 };
+
+    /// What is as it was where it gave no answer, since memory ran out.
+    ghost stays: { Self → Self → Type 0 };
 
     /// Answers a client's request at its journal and a number of claims, and keeps the call where
     /// it accepts one. Every other answer leaves the journal as it was, and so does running out of
-    /// memory.
+    /// memory, after which it may be asked again.
     fn ask(&mut self, client: u8, request: &Request) -> Result<(Reply, Stamp), NoMemory>
         requires { ready self.old client }
         ensures asked { IfOk result (λ r. IsAsked (setup self.old) (journal self.old) (journal
             self.new) client request.now r.0 r.1) }
-        ensures claims { IfOk result (λ r. answers_at self.old r.1.claims) }
+        ensures tells { IfOk result (λ r. tells self.old self.new client request.now r.0 r.1) }
         ensures err { OnErr result (journal self.new ≡ journal self.old) }
+        ensures stays { OnErr result (stays self.old self.new) }
+        ensures again { OnErr result (ready self.new client) }
         ensures setup { setup self.new ≡ setup self.old }
         ensures lent { lent self.new ≡ lent self.old }
         ensures keeps { keeps self.old self.new };
@@ -71,7 +84,7 @@ pub struct PlainDesk {
     setup: Setup,
     claims: u64,
     lists: Lists,
-    kept: Kept,
+    kept: BookState,
 }
 
 impl Model for PlainDesk {
@@ -97,7 +110,7 @@ pub fn base_entries(alloc: Global, setup: &Setup) -> Result<Entries, NoMemory>
     let mut made = Entries::new(alloc);
     for output in 0..rows.len() {
         let row = rows[output].copy()?;
-        made.push(Entry::new(output as u8, setup.device.base(), row, 0))?;
+        made.push(Entry::new(output as u8, setup.device.base(), 0, row, 0))?;
     }
     Ok(made)
 }
@@ -107,16 +120,16 @@ impl PlainDesk {
     pub fn new(alloc: Global, setup: &Setup) -> Result<PlainDesk, NoMemory>
         ensures { IfOk result (λ made. made ≡ desk_parts setup.now 0 []) }
     {
+        let _device = &setup.device;
         let all = base_entries(alloc, setup)?;
         let live = base_entries(alloc, setup)?.into_vec();
-        let kept = Kept {
+        let kept = BookState {
             from: 0,
             seen: 0,
             journal: Journal::new(alloc),
             pending: Vec::new(alloc),
             last: None,
             next: 1,
-            used: u64::from(setup.device.outputs()),
         };
         Ok(PlainDesk {
             alloc,
@@ -160,15 +173,34 @@ impl PlainDesk {
         &self.kept.journal
     }
 
-    /// The row that an output has at a tick.
-    pub fn row(&self, output: u8, tick: u64) -> &Row
-        requires output { output < length self.now.setup.device.outputs }
-        requires tick { self.now.setup.device.base ≤ tick }
-        ensures value { selected (entries_of self.now.setup self.now.journal) output tick ≡ Some
+    /// The entries of the base rows and of the calls that were accepted.
+    pub fn entries(&self) -> &[Entry]
+        ensures value { result.now ≡ entries_of self.now.setup self.now.journal }
+        ensures fit { AreEntries self.now.setup (key_at self.now.setup self.now.setup.device.base)
             result.now }
+    {
+        self.lists.all.as_slice()
+    }
+
+    /// The calls that were accepted, and the entries of the base rows and of these calls.
+    pub fn into_parts(self) -> (Journal, Entries)
+        ensures journal { result.0 ≡ self.journal }
+        ensures entries { result.1 ≡ entries_of self.setup self.journal }
+    {
+        let PlainDesk { lists, kept, .. } = self;
+        (kept.journal, lists.all)
+    }
+
+    /// The row that an output has at a position, which is a frame counted from TAI 0.
+    pub fn row(&self, output: u8, position: u64) -> &Row
+        requires output { output < length self.now.setup.device.outputs }
+        requires position { self.now.setup.device.base * self.now.setup.device.rate.frames
+            ≤ position }
+        ensures value { selected (entries_of self.now.setup self.now.journal) output (position_key
+            self.now.setup.device.rate.frames position) ≡ Some result.now }
         ensures fits { IsRowOf self.now.setup.device output result.now }
     {
-        row(self.lists.all.as_slice(), output, tick)
+        row_at(&self.setup, self.lists.all.as_slice(), output, position)
     }
 }
 
@@ -195,9 +227,9 @@ fn append(lists: &mut Lists, new: Entries) -> Result<(), NoMemory>
 fn keep(
     setup: &Setup,
     lists: &mut Lists,
-    kept: &mut Kept,
+    kept: &mut BookState,
     claims: u64,
-    made: Made,
+    made: Acceptance,
 ) -> Result<(), NoMemory>
     requires made { IsMade setup.now claims lists.old.live.items (parts kept.old) made }
     requires looked { kept.old.seen ≡ claims }
@@ -210,10 +242,11 @@ fn keep(
     ensures err_all { OnErr result (lists.new.all ≡ lists.old.all) }
     ensures err_live { OnErr result (lists.new.live.items ≡ lists.old.live.items) }
 {
-    let Made {
+    let Acceptance {
         call,
         entries,
         item,
+        places: _,
         settling,
     } = made;
     let (count, fresh) = (lists.all.len(), lists.live.len());
@@ -239,7 +272,7 @@ fn answer_now(
     alloc: Global,
     setup: &Setup,
     lists: &mut Lists,
-    kept: &mut Kept,
+    kept: &mut BookState,
     claims: u64,
     client: u8,
     request: &Request,
@@ -255,7 +288,7 @@ fn answer_now(
     ensures err { OnErr result (kept.new.journal ≡ kept.old.journal) }
 {
     let live = lists.live.as_slice();
-    let Decided { reply, made } = decide(alloc, setup, live, kept, claims, client, request)?;
+    let Decision { reply, made } = decide(alloc, setup, live, kept, claims, client, request)?;
     match made {
         None => Ok(reply),
         Some(made) => {
@@ -270,7 +303,7 @@ fn answer(
     alloc: Global,
     setup: &Setup,
     lists: &mut Lists,
-    kept: &mut Kept,
+    kept: &mut BookState,
     claims: u64,
     client: u8,
     request: &Request,
@@ -299,13 +332,17 @@ impl Desk for PlainDesk {
 
     ghost keeps = { λ a b. a.claims ≡ b.claims };
 
-    ghost answers_at = { λ d claims. claims ≡ d.claims };
+    ghost tells = { λ a b client request reply stamp. stamp.claims ≡ a.claims };
+
+    ghost stays = { λ a b. b ≡ a };
 
     fn ask(&mut self, client: u8, request: &Request) -> Result<(Reply, Stamp), NoMemory>
         ensures asked { IfOk result (λ r. IsAsked self.old.setup self.old.journal self.new.journal
             client request.now r.0 r.1) }
-        ensures claims { IfOk result (λ r. r.1.claims ≡ self.old.claims) }
+        ensures tells { IfOk result (λ r. r.1.claims ≡ self.old.claims) }
         ensures err { OnErr result (self.new.journal ≡ self.old.journal) }
+        ensures stays { OnErr result (self.new ≡ self.old) }
+        ensures again { OnErr result (Unit {0}) }
         ensures setup { self.new.setup ≡ self.old.setup }
         ensures lent { ◌≡◌ {A = ℕ × ℕ} (0, 0) (0, 0) }
         ensures keeps { self.old.claims ≡ self.new.claims }

@@ -2,6 +2,7 @@
 //! accepted.
 #![tactic(auto)]
 
+mod bases;
 mod decisions;
 mod desk;
 mod kept;
@@ -15,6 +16,7 @@ mod shows;
 #[cfg(test)]
 mod tests;
 
+pub use bases::carry;
 pub use book_words::{
     Activation, ActiveView, ClaimItem, ClaimItems, Given, GivenItems, History, Journal,
     JournalCall, PendingItem, PendingItems, Refusal, Reply, ReplyItem, ReplyItems, Request,
@@ -22,5 +24,5 @@ pub use book_words::{
 };
 pub use decisions::decide;
 pub use desk::{Desk, PlainDesk, base_entries};
-pub use kept::{Decided, Kept, Made, Settling, look, settle, stage, unstage};
+pub use kept::{Acceptance, BookState, Decision, StateChange, look, settle, stage, unstage};
 pub use order::{in_order, merge};

@@ -6,8 +6,8 @@ ghost use Rattle.book_words.specs.History.{AreInOrder, in_order, put};
 use crate::ReplyItems;
 use io_caps::NoMemory;
 
-/// Returns replies in the order of a history: by claims, by calls, by client, and otherwise as they
-/// came.
+/// Returns replies in the order of a history: by claims, by calls, by client, and otherwise in the
+/// order in which they came.
 pub fn in_order(replies: ReplyItems) -> Result<ReplyItems, NoMemory>
     ensures { IfOk result (λ made. made ≡ in_order replies) }
 {

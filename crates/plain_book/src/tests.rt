@@ -3,7 +3,7 @@
 ghost use Rattle.std.specs.Prelude.{◌<◌, ◌^◌};
 
 use crate::{
-    Activation, ClaimItem, ClaimItems, Desk, Given, History, Journal, JournalCall, Kept,
+    Activation, BookState, ClaimItem, ClaimItems, Desk, Given, History, Journal, JournalCall,
     PendingItem, PendingItems, PlainDesk, Refusal, Reply, ReplyItem, ReplyItems, Request, Said,
     Stamp, When, in_order, stage, unstage,
 };
@@ -12,7 +12,7 @@ use io_caps::{
     Rate, Routable, Text, TryCopy, Width,
 };
 use map_entry::{
-    Action, CLAIMS_LIMIT, Cell, Change, Changes, OutputChange, Row, RowFault, Rows, Setup,
+    Action, CLAIMS_LIMIT, Cell, Change, Changes, Grain, OutputChange, Row, RowFault, Rows, Setup,
 };
 use std::alloc::Global;
 use std::process::Abort;
@@ -116,8 +116,8 @@ fn cells(rows: &Rows, output: usize) -> [Cell; 2] {
 
 fn in_words(reply: &Reply) -> Told {
     match reply {
-        Reply::Activated { id, tick } => Told::Activated(*id, *tick),
-        Reply::Scheduled { id, tick } => Told::Scheduled(*id, *tick),
+        Reply::Activated { id, tick, .. } => Told::Activated(*id, *tick),
+        Reply::Scheduled { id, tick, .. } => Told::Scheduled(*id, *tick),
         Reply::Deleted { id } => Told::Deleted(*id),
         Reply::Active(view) => {
             Told::Active(
@@ -376,6 +376,51 @@ const LAST: Tai = Tai {
     secs: 1_099_511_627_775,
     nanos: 999_999_999,
 };
+
+/// The book of the device with two frames a tick, whose activations count from frames.
+fn frame_desk(alloc: Global) -> Result<PlainDesk, Fail> {
+    let device = Device::build(alloc, parts(alloc, 2, 0)?)
+        .ok()
+        .ok_or("a device")?;
+    let Setup { device, rows, .. } = Setup::build(alloc, device, rows(alloc)?)
+        .ok()
+        .ok_or("a setup")?;
+    let grain = Grain::Frame;
+    Ok(PlainDesk::new(
+        alloc,
+        &Setup {
+            device,
+            rows,
+            grain,
+        },
+    )?)
+}
+
+/// An activation at a frame within a tick, and its deletion after a number of claims.
+#[test]
+fn exact_to_the_frame(rt: HostRuntime) -> Result<(), Fail> {
+    let alloc = rt.alloc();
+    for (claims, deleted) in [
+        (2, Told::Deleted(1)),
+        (3, refused(Refusal::NotPending { id: 1 })),
+    ] {
+        let mut desk = frame_desk(alloc)?;
+        let asked = request(alloc, &at(nanos(62_500), one(0, 0, A0)))?;
+        let (reply, _) = desk.ask(0, &asked)?;
+        match reply {
+            Reply::Scheduled {
+                id: 1,
+                tick: 1,
+                offset: 1,
+            } => {}
+            _ => return Err("tick 1, offset 1".into()),
+        }
+        raise(&mut desk, claims);
+        let request = request(alloc, &Asked::Delete(1))?;
+        assert_eq!(rt; ask(&rt, &mut desk, &request)?, deleted);
+    }
+    Ok(())
+}
 
 #[test]
 fn locked_output_over_http(rt: HostRuntime) -> Result<(), Fail> {
@@ -642,19 +687,18 @@ fn most_claims(rt: HostRuntime) -> Result<(), Fail> {
     run(&rt, rt.alloc(), 0, &steps)
 }
 
-fn kept(alloc: Global) -> Kept {
-    Kept {
+fn kept(alloc: Global) -> BookState {
+    BookState {
         from: 0,
         seen: 0,
         journal: Journal::new(alloc),
         pending: Vec::new(alloc),
         last: None,
         next: 1,
-        used: 2,
     }
 }
 
-fn counts(kept: &Kept) -> (usize, usize) {
+fn counts(kept: &BookState) -> (usize, usize) {
     (kept.journal.len(), kept.pending.len())
 }
 
@@ -663,8 +707,8 @@ fn counts(kept: &Kept) -> (usize, usize) {
 fn staged(rt: HostRuntime) -> Result<(), Fail> {
     let alloc = rt.alloc();
     let mut kept = sent(kept(alloc));
-    let item = PendingItem::new(1, When::Now, 2, action(alloc, &NONE)?);
-    let call = JournalCall::new(0, 3, 1, 2, Request::Active);
+    let item = PendingItem::new(1, When::Now, 2, 0, action(alloc, &NONE)?);
+    let call = JournalCall::new(0, 3, 1, 2, 0, Request::Active);
     stage(&mut kept, call, Some(item))?;
     assert_eq!(rt; counts(&kept), (1, 1));
     unstage(&mut kept, 0, 0);
@@ -716,22 +760,20 @@ fn sent<T: Send>(value: T) -> T {
     value
 }
 
-/// As many activations at once on both outputs as there are places; a time past the end of time is
-/// told before that.
+/// More activations at once than a table has places.
 #[test]
-fn full_table(rt: HostRuntime) -> Result<(), Fail> {
+fn no_full_table(rt: HostRuntime) -> Result<(), Fail> {
     let alloc = rt.alloc();
     let mut desk = sent(desk(alloc, 0)?);
     let request = request(alloc, &now(across(A0, A1)))?;
-    for id in 1..256u64 {
+    for id in 1..=256u64 {
         assert_eq!(rt; ask(&rt, &mut desk, &request)?, Told::Activated(id, 0));
     }
-    assert_eq!(rt; ask(&rt, &mut desk, &request)?, refused(Refusal::Full));
     let late = self::request(alloc, &at(LAST, across(A0, A1)))?;
     assert_eq!(rt; ask(&rt, &mut desk, &late)?, refused(Refusal::Time));
     assert_eq!(rt;
         ask(&rt, &mut desk, &Request::Active)?,
-        Told::Active(Some(255), [[A0, OFF], [A1, OFF]])
+        Told::Active(Some(256), [[A0, OFF], [A1, OFF]])
     );
     Ok(())
 }
