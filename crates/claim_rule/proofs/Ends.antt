@@ -9,7 +9,8 @@ use lib.ListN.{get_elem?}
 use Rattle.atomic_table.specs.Table.{opening, Final, Seen}
 use Rattle.map_entry.specs.declared.entry.Entry.{Entry}
 use Rattle.map_entry.specs.Entry.{due, selected}
-use Rattle.map_entry.proofs.Selection.{selected-later}
+use Rattle.map_entry.proofs.Selection.{selected-behind}
+use Rattle.map_entry.specs.Tick.{frame_key}
 use Rattle.claim_rule.specs.declared.plan.Plan.{Plan}
 use Rattle.claim_rule.specs.declared.plan.Start.{Start}
 use Rattle.claim_rule.specs.declared.view.View.{View}
@@ -69,9 +70,9 @@ opens_kept start words o =
 -- the entries after those that a draw found change no row of its tick
 pub stays_selected : (plan : Plan) (list : List Entry) (drawn : ℕ) (d : Draw)
     → IsGood plan list drawn d → StaysSelected plan list d
-stays_selected plan list drawn d g early output =
-    ap (λ (l : List Entry). selected l output (tick_of plan d.number)) g.front
-    ∙ selected-later due d.found g.rest output (tick_of plan d.number) (g.later early)
+stays_selected plan list drawn d g early output frame few =
+    ap (λ (l : List Entry). selected l output (frame_key (tick_of plan d.number) frame)) g.front
+    ∙ selected-behind d.found g.rest output (tick_of plan d.number) frame few (g.later early)
 
 -- what is known where that many numbers were drawn
 ends_at : (plan : Plan) (list : List Entry) (draws : List Draw) (seen : List Sight) (drawn : ℕ)

@@ -34,8 +34,8 @@ channels_few d o device there =
 pub entry_short : (plan : Plan) (e : Entry) → IsSound plan → IsFit plan e
     → length (entry_words e) ≤ stride
 entry_short plan e sound fit =
-    let few = channels_few plan.setup.device e.output sound.setup.device fit.ok.there in
-    let long = fit.ok.long in let m = length-map e.row cell_word in omega (arith, few.1)
+    let few = channels_few plan.setup.device e.output sound.setup.device fit.ok.row.there in
+    let long = fit.ok.row.long in let m = length-map e.row cell_word in omega (arith, few.1)
 
 pub some_output : (plan : Plan) → IsSound plan → 0 < outputs_of plan
 some_output plan sound = let b = sound.setup.device.bounds.some_output in omega arith

@@ -64,7 +64,7 @@ good_drawn plan list drawn d g = let b = g.below in
 later_ticks : (plan : Plan) (drawn : ℕ) (new : List Entry) (number : ℕ) → 0 < outputs_of plan
     → number < drawn → number < plan.packets
     → All (λ e. e.at ≡ claims_at plan drawn) new → All (IsTimely plan) new
-    → All (λ e. tick_of plan number < due e) new
+    → All (λ e. tick_of plan number < e.tick) new
 later_ticks plan drawn new number some below early ats timely i d lt =
     let at = ats i d lt in let t = timely i d lt in let e : Entry = get_or new i d in
     let less : tick_of plan number < begin plan e.at =
@@ -80,7 +80,7 @@ good_published plan list new drawn some ats timely d g = record {
   below = g.below;
   rest = g.rest ++ new;
   front = ap (λ (l : List Entry). l ++ new) g.front ∙ append_assoc d.found g.rest new;
-  later = λ early. All-append (λ (e : Entry). tick_of plan d.number < due e) g.rest new
+  later = λ early. All-append (λ (e : Entry). tick_of plan d.number < e.tick) g.rest new
       (g.later early)
       (later_ticks plan drawn new d.number some g.below early ats timely);
 }

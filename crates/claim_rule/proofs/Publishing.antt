@@ -18,6 +18,7 @@ use Rattle.claim_rule.specs.declared.plan.Plan.{Plan}
 use Rattle.claim_rule.specs.declared.plan.Start.{Start}
 use Rattle.claim_rule.specs.declared.view.View.{View}
 use Rattle.claim_rule.specs.declared.view.Draw.{Draw}
+use Rattle.map_entry.specs.Tick.{frame_key}
 use Rattle.claim_rule.specs.Claims.{plan_of, tick_of, claims_at, IsFit, IsTimely}
 use Rattle.claim_rule.specs.Words.{state_word, Spells}
 use Rattle.claim_rule.specs.Views.{Begins, overs, times, saw, added}
@@ -42,7 +43,7 @@ listed_more plan list new drawn v listed same may =
       room = omega arith;
       given = omega arith;
       fits = All-append (IsFit plan) list new listed.fits may.fits;
-      covers = rows_more plan.setup.device list new (tick_of plan 0) listed.covers
+      covers = rows_more plan.setup.device list new (frame_key (tick_of plan 0) 0) listed.covers
           (All-weaker (IsFit plan) (IsEntryOk plan.setup.device)
           (λ (e : Entry) (fit : IsFit plan e). fit.ok) new may.fits);
       rises = rises_append 0 (claims_at plan drawn) list new listed.rises may.ats;

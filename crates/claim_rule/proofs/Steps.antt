@@ -19,9 +19,10 @@ use Rattle.claim_rule.specs.declared.view.Draw.{Draw}
 use Rattle.claim_rule.specs.Claims.{plan_of, tick_of, claims_at, IsSound, IsFit}
 use Rattle.claim_rule.specs.Words.{stride, state_word, entry_words, IsSpeltAt, Spells}
 use Rattle.claim_rule.specs.Views.{Begins, draw, late, overs, is_at, times, sight, IsSight, drew}
-use Rattle.claim_rule.specs.Views.{loaded, saw, wrote}
+use Rattle.claim_rule.specs.Views.{loaded, pieced, saw, wrote}
 use Rattle.claim_rule.specs.Rule.{Shown, IsGood, Writes, Fits, Holds, Kept}
-use Rattle.claim_rule.specs.Plays.{raw_of, count_of, IsFound, IsLater, draws, reads, sees, writes}
+use Rattle.claim_rule.specs.Plays.{raw_of, count_of, IsFound, IsLater, draws, reads, reads_piece}
+use Rattle.claim_rule.specs.Plays.{sees, writes}
 use Rattle.list_laws.proofs.Items.{set_keeps}
 use Rattle.claim_rule.proofs.Totals.{total_set, same_total, one_of, each_less, one_less, once_more}
 use Rattle.claim_rule.proofs.Lists.{begins_same, begins_at, begins_length, sights_more, late_most}
@@ -140,6 +141,40 @@ reads_keeps start slots id me i s kept _ at _ =
       ),
     )
 
+pub pieces_keeps : (start : Start) (slots id : ℕ) (me : Seat) (i : ℕ)
+    → Allows (Kept start) slots id me i (λ n. n) (reads_piece (step slots i 0 0 none) me)
+pieces_keeps start slots id me i s kept _ at _ =
+    let plan : Plan = plan_of start in let x : Shown = kept.0 in let h = kept.1 in
+    let w : View = pieced me.0 in
+    let f : Fits plan x id me.0 = h.seats id me.0 at in
+    let fits : Fits plan x id w = record {
+      bound = f.bound;
+      idle = f.idle;
+      over = f.over;
+      draws = f.draws;
+      sights = f.sights;
+      told = f.told;
+      knows = f.knows;
+      writes = λ loud. let mine = f.writes loud in
+          record { keeper = mine.keeper; entries = mine.entries; cells = mine.cells };
+    } in (
+      w,
+      keeps,
+      tt,
+      (x, unmoved plan s x h i id me.1 me.0 w at fits refl refl),
+      (
+        refl,
+        λ j k d place inside short.
+            let same : get_or x.list j d ≡ get_or me.0.entries j d =
+            begins_at me.0.entries x.list j d f.knows inside in
+            let there : j < length x.list = let b = begins_length me.0.entries x.list f.knows in
+            omega arith in
+            let spelt = subst (IsSpeltAt x.cells j) same (h.spelt j d there) k short in
+            ap (λ (n : ℕ). get_or s.words n 0) (place ∙ add-one (j * stride + k))
+            ∙ (ap (λ (ws : List ℕ). get_or ws (suc (j * stride + k)) 0) h.words ∙ spelt),
+      ),
+    )
+
 -- ---- a worker draws
 
 -- another seat's draws and states stand after a draw
@@ -168,7 +203,7 @@ drawn_mine plan x id v quiet part early f =
             below = omega arith;
             rest = [];
             front = sym (append-nil x.list);
-            later = λ _. All-nil (λ (e : Entry). tick_of plan x.drawn < due e);
+            later = λ _. All-nil (λ (e : Entry). tick_of plan x.drawn < e.tick);
           });
       sights = g.sights;
       told = g.told;
@@ -261,6 +296,9 @@ draws_keeps start slots id me live quiet part early_there s kept _ at _ =
               fits = h.listed.fits;
               covers = h.listed.covers;
             }),
+        subst (λ (n : ℕ). All (λ (d : Draw). d.number < n) me.0.draws) raw
+            (All-weaker (IsGood plan x.list x.drawn) (λ (d : Draw). d.number < x.drawn)
+            (λ (d : Draw) (g : IsGood plan x.list x.drawn d). g.below) me.0.draws f.draws),
       ),
     )
 

@@ -3,7 +3,7 @@
 use Rattle.std.specs.Prelude.{ℕ, ◌+◌, ◌^◌, ◌<◌, ◌≤◌, length, min}
 use Rattle.map_entry.specs.declared.claims.TheConstants.{CLAIMS_LIMIT}
 use Rattle.map_entry.specs.declared.entry.Entry.{Entry}
-use Rattle.map_entry.specs.Entry.{due, IsEntryOk}
+use Rattle.map_entry.specs.Entry.{IsEntryOk}
 use Rattle.map_entry.specs.Setup.{IsSetup}
 use Rattle.map_entry.specs.Tick.{claim_tick, claim_output, first_tick}
 use Rattle.claim_rule.specs.declared.plan.Plan.{Plan}
@@ -53,6 +53,6 @@ pub record IsFit (plan : Plan) (e : Entry) : Type 0 where
   pub tick : e.tick < TICKS_LIMIT
   pub at : e.at < CLAIMS_LIMIT
 
--- no tick from which the entry counts had begun when it was published
+-- the tick from which the entry counts had not begun when it was published
 abbrev pub IsTimely : Plan → Entry → Type 0
-IsTimely plan e = begin plan e.at ≤ due e
+IsTimely plan e = begin plan e.at ≤ e.tick

@@ -1,9 +1,10 @@
 -- What is known of a table in the end. (This project's own.)
-use Rattle.std.specs.Prelude.{◌≡◌, ℕ, ◌+◌, ◌<◌, ◌≤◌, true, List, ◌++◌, length}
+use Rattle.std.specs.Prelude.{◌≡◌, ℕ, ◌+◌, ◌^◌, ◌<◌, ◌≤◌, true, List, ◌++◌, length}
 use Rattle.std.specs.List.{All}
 use Rattle.atomic_table.specs.Table.{Final, Seen}
 use Rattle.map_entry.specs.declared.entry.Entry.{Entry}
 use Rattle.map_entry.specs.Entry.{selected}
+use Rattle.map_entry.specs.Tick.{frame_key}
 use Rattle.claim_rule.specs.declared.plan.Plan.{Plan}
 use Rattle.claim_rule.specs.declared.plan.Start.{Start}
 use Rattle.claim_rule.specs.declared.view.View.{View}
@@ -13,12 +14,12 @@ use Rattle.claim_rule.specs.Claims.{plan_of, tick_of}
 use Rattle.claim_rule.specs.Views.{times, once_below, IsSight}
 use Rattle.claim_rule.specs.Rule.{Kept, IsListed, IsGood}
 
--- what the whole list selects for a draw's tick is what the entries found select
+-- what the whole list selects for a frame of a draw's tick is what the entries found select
 abbrev pub StaysSelected : Plan → List Entry → Draw → Type 0
 StaysSelected plan list d =
-    d.number < plan.packets → (output : ℕ)
-    → selected list output (tick_of plan d.number)
-    ≡ selected d.found output (tick_of plan d.number)
+    d.number < plan.packets → (output frame : ℕ) → frame < 2 ^ 16
+    → selected list output (frame_key (tick_of plan d.number) frame)
+    ≡ selected d.found output (frame_key (tick_of plan d.number) frame)
 
 -- All entries, all draws and what was seen, once every pass is back: each number below as many as
 -- there are draws was drawn once, and no other; the entries after those that a draw found count

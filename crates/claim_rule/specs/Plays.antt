@@ -6,11 +6,12 @@ use mathlib.Core.Option.{Option, none, some}
 use Rattle.atomic_table.specs.Table.{Me, Step}
 use Rattle.map_entry.specs.declared.entry.Entry.{Entry}
 use Rattle.map_entry.specs.Entry.{HasRowsFrom}
+use Rattle.map_entry.specs.Tick.{frame_key}
 use Rattle.claim_rule.specs.declared.plan.Plan.{Plan}
 use Rattle.claim_rule.specs.declared.view.View.{View}
 use Rattle.claim_rule.specs.Claims.{tick_of, claims_at, IsFit, IsTimely}
 use Rattle.claim_rule.specs.Words.{places, stride, entry_words, Spells}
-use Rattle.claim_rule.specs.Views.{Begins, IsSight, drew, loaded, saw, wrote, added}
+use Rattle.claim_rule.specs.Views.{Begins, IsSight, drew, loaded, pieced, saw, wrote, added}
 
 -- a seat's view, and the slots that it holds, of which there are none
 abbrev pub Knows : Type 0
@@ -29,22 +30,31 @@ pub record IsFound (plan : Plan) (list : List Entry) (word : ℕ) : Type 0 where
   pub count : length list ≡ count_of word
   pub room : length list ≤ places
   pub fits : All (IsFit plan) list
-  pub covers : HasRowsFrom plan.setup.device list (tick_of plan 0)
+  pub covers : HasRowsFrom plan.setup.device list (frame_key (tick_of plan 0) 0)
 
--- A draw tells the number and the entries published, which begin with those that the draw before
--- found. The seat has room in its list of claims for as many as were drawn before.
+-- A draw tells the number, which is greater than those that the seat drew before, and the entries
+-- published, which begin with those that the draw before found. The seat has room in its list of
+-- claims for as many as were drawn before.
 abbrev pub draws : Step (List Entry) → Knows → ℕ → Knows → Type 0
 draws st me word after =
     (found : List Entry) × (after ≡ (drew me.0 (raw_of word) found, me.1))
     × (length me.0.draws ≤ raw_of word) × Begins me.0.entries found × IsFound me.0.plan found word
+    × All (λ d. d.number < raw_of word) me.0.draws
+
+-- what was loaded is the word of the entry known at that place
+abbrev pub IsWordRead : Step (List Entry) → Knows → ℕ → Type 0
+IsWordRead st me word =
+    (i k : ℕ) (d : Entry) → st.word ≡ (i * stride + k) + 1 → i < length me.0.entries
+    → k < length (entry_words (slice_index_or me.0.entries i d))
+    → word ≡ slice_index (entry_words (slice_index_or me.0.entries i d)) k
 
 -- a load of an entry's word tells that it is the word of the entry known at that place
 abbrev pub reads : Step (List Entry) → Knows → ℕ → Knows → Type 0
-reads st me word after =
-    (after ≡ (loaded me.0, me.1))
-    × ((i k : ℕ) (d : Entry) → st.word ≡ (i * stride + k) + 1 → i < length me.0.entries
-    → k < length (entry_words (slice_index_or me.0.entries i d))
-    → word ≡ slice_index (entry_words (slice_index_or me.0.entries i d)) k)
+reads st me word after = (after ≡ (loaded me.0, me.1)) × IsWordRead st me word
+
+-- so does a load for a part of a packet, which is counted apart
+abbrev pub reads_piece : Step (List Entry) → Knows → ℕ → Knows → Type 0
+reads_piece st me word after = (after ≡ (pieced me.0, me.1)) × IsWordRead st me word
 
 -- The state is not below those that were seen, nor those of which the seat was told. The publisher
 -- finds as many entries as it has published, and there are at most as many draws as packets and

@@ -7,7 +7,8 @@ use mathlib.Core.Option.{some}
 use lib.ListN.{get_elem?}
 use Rattle.atomic_table.specs.Table.{State}
 use Rattle.map_entry.specs.declared.entry.Entry.{Entry}
-use Rattle.map_entry.specs.Entry.{due, HasRowsFrom}
+use Rattle.map_entry.specs.Entry.{HasRowsFrom}
+use Rattle.map_entry.specs.Tick.{frame_key}
 use Rattle.claim_rule.specs.declared.plan.Plan.{Plan}
 use Rattle.claim_rule.specs.declared.plan.Start.{Start}
 use Rattle.claim_rule.specs.declared.view.View.{View}
@@ -37,7 +38,7 @@ pub record IsListed (plan : Plan) (list : List Entry) (drawn : ℕ) : Type 0 whe
   pub room : length list ≤ places
   pub given : plan.given ≤ length list
   pub fits : All (IsFit plan) list
-  pub covers : HasRowsFrom plan.setup.device list (tick_of plan 0)
+  pub covers : HasRowsFrom plan.setup.device list (frame_key (tick_of plan 0) 0)
   pub rises : Rises 0 list (claims_at plan drawn)
   pub timely : All (IsTimely plan) (drop plan.given list)
 
@@ -47,7 +48,7 @@ pub record IsGood (plan : Plan) (list : List Entry) (drawn : ℕ) (d : Draw) : T
   pub below : d.number < drawn
   pub rest : List Entry
   pub front : list ≡ d.found ++ rest
-  pub later : d.number < plan.packets → All (λ e. tick_of plan d.number < due e) rest
+  pub later : d.number < plan.packets → All (λ e. tick_of plan d.number < e.tick) rest
 
 -- the one seat that publishes knows all entries, and all words of their places
 pub record Writes (x : Shown) (seat : ℕ) (v : View) : Type 0 where

@@ -12,7 +12,8 @@ use Rattle.claim_rule.specs.Words.{stride, state_word}
 use Rattle.claim_rule.specs.Views.{overs, opener, without_part, worker}
 use Rattle.claim_rule.specs.Views.{note, noted, taken_in, spent}
 use Rattle.claim_rule.specs.Rule.{Kept, Opens}
-use Rattle.claim_rule.specs.Plays.{Knows, draws, reads, sees, writes, publishes, MayPublish}
+use Rattle.claim_rule.specs.Plays.{Knows, draws, reads, reads_piece, sees, writes, publishes}
+use Rattle.claim_rule.specs.Plays.{MayPublish}
 
 -- a table whose words spell the entries given may begin
 abbrev pub OpeningHolds : Type 0
@@ -30,6 +31,11 @@ DrawKeeps =
 abbrev pub ReadKeeps : Type 0
 ReadKeeps = (start : Start) (slots id : ℕ) (me : Knows) (i : ℕ)
     → Allows (Kept start) slots id me i (λ n. n) (reads (step slots i 0 0 none) me)
+
+-- a seat loads a word of a row for a part of a packet
+abbrev pub PieceKeeps : Type 0
+PieceKeeps = (start : Start) (slots id : ℕ) (me : Knows) (i : ℕ)
+    → Allows (Kept start) slots id me i (λ n. n) (reads_piece (step slots i 0 0 none) me)
 
 -- a seat loads word 0
 abbrev pub LookKeeps : Type 0

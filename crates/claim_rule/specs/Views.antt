@@ -5,6 +5,7 @@ use Rattle.std.specs.Prelude.{◌∷◌, ◌++◌, cond, nat_le, ◌==◌, drop,
 use Rattle.std.specs.List.{sum_by}
 use Rattle.map_entry.specs.declared.entry.Entry.{Entry}
 use Rattle.map_entry.specs.Setup.{SetupParts}
+use Rattle.map_entry.specs.declared.grain.Grain.TheVariants.{Tick}
 use Rattle.claim_rule.specs.declared.plan.Plan.{Plan}
 use Rattle.claim_rule.specs.declared.plan.Start.{Start}
 use Rattle.claim_rule.specs.declared.view.View.{View}
@@ -65,6 +66,7 @@ opener start = record {
   draws = [];
   entries = start.entries.value;
   loads = 0;
+  pieces = 0;
   publishes = true;
   cells = drop 1 start.words.value.items;
   sights = [];
@@ -80,6 +82,7 @@ newcomer plan parts told = record {
   draws = [];
   entries = [];
   loads = 0;
+  pieces = 0;
   publishes = false;
   cells = [];
   sights = [];
@@ -115,6 +118,10 @@ drew v number found = record v { draws = v.draws ++ draw number found ∷ []; en
 abbrev pub loaded : View → View
 loaded v = record v { loads = v.loads + 1 }
 
+-- a view after one load more of a word of a row for a part of a packet
+abbrev pub pieced : View → View
+pieced v = record v { pieces = v.pieces + 1 }
+
 -- a view that saw a state
 abbrev pub saw : View → ℕ → ℕ → View
 saw v raw count = record v { sights = v.sights ++ sight raw count ∷ [] }
@@ -138,6 +145,7 @@ no_setup = record {
     outputs = [];
   };
   rows = [];
+  grain = Tick;
 }
 
 -- the plan of no table

@@ -33,10 +33,11 @@ abbrev pub IsByteCell : Cell → Type 0
 IsByteCell Unrouted = Unit {0}
 IsByteCell (From input channel) = (input < 2 ^ 8) × (channel < 2 ^ 8)
 
--- an entry: its tick above 6 bits of its output, the claims at its publication above 8 bits that
--- are left free, and its cells
+-- an entry: its tick above 6 bits of its output, the claims at its publication above 8 bits of its
+-- offset, and its cells
 abbrev pub entry_words : Entry → List ℕ
-entry_words e = (e.tick * 2 ^ 6 + e.output) ∷ (e.at * 2 ^ 8) ∷ map cell_word e.row
+entry_words e =
+    (e.tick * 2 ^ 6 + e.output) ∷ (e.at * 2 ^ 8 + e.offset) ∷ map cell_word e.row
 
 -- the words of the place i spell the entry
 abbrev pub IsSpeltAt : List ℕ → ℕ → Entry → Type 0

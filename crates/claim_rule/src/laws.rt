@@ -1,6 +1,7 @@
 //! Laws of the rule, each the contract of a function that does nothing.
 
-ghost use Rattle.claim_rule.specs.StepsKeep.{OpeningHolds, DrawKeeps, ReadKeeps, LookKeeps};
+ghost use Rattle.claim_rule.specs.StepsKeep.{OpeningHolds, DrawKeeps, ReadKeeps, PieceKeeps};
+ghost use Rattle.claim_rule.specs.StepsKeep.{LookKeeps};
 ghost use Rattle.claim_rule.specs.StepsKeep.{StoreKeeps, ExchangeKeeps, PassKeeps, NoteKeeps};
 ghost use Rattle.claim_rule.specs.StepsKeep.{NoteInKeeps, PassInKeeps};
 ghost use Rattle.claim_rule.specs.Ends.{EndKnown, RowsStay};
@@ -19,6 +20,11 @@ pub fn draw_keeps()
 /// knows.
 pub fn read_keeps()
     ensures { ReadKeeps }
+{}
+
+/// So does a load for a part of a packet.
+pub fn piece_keeps()
+    ensures { PieceKeeps }
 {}
 
 /// A load of word 0 keeps the rule. It tells a state that is not below what the seat saw before.

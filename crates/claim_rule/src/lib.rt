@@ -12,6 +12,8 @@ mod words;
 
 pub use cells::{cell_of, word_of};
 pub use plan::{Plan, Start};
-pub use rule::{Draws, Hands, Notes, NotesIn, Publishes, Reads, Sees, TableLaw, TakesIn, Writes};
+pub use rule::{
+    Draws, Hands, Notes, NotesIn, Publishes, Reads, ReadsPiece, Sees, TableLaw, TakesIn, Writes,
+};
 pub use view::{Draw, Sight, View};
 pub use words::{HEAD_WORDS, STRIDE, TICKS_LIMIT, WORDS};

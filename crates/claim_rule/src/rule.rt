@@ -35,6 +35,15 @@ impl Play<Entries, View> for Reads {
     ghost then = { reads };
 }
 
+/// A worker loads a word of a row for a part of a packet.
+pub struct ReadsPiece;
+
+impl Play<Entries, View> for ReadsPiece {
+    ghost use Rattle.claim_rule.specs.Plays.{reads_piece};
+
+    ghost then = { reads_piece };
+}
+
 /// The publisher or a client loads word 0.
 pub struct Sees;
 

@@ -31,6 +31,8 @@ pub struct View {
     pub entries: LinkedList<Entry>,
     /// How often it has loaded a word of an entry.
     pub loads: u64,
+    /// How often it has loaded a word of a row for a part of a packet.
+    pub pieces: u64,
     /// Whether it publishes.
     pub publishes: bool,
     /// The words of the entries' places, of the publisher.

@@ -27,6 +27,7 @@ pub record AreFirst (s : SetupParts) (es : List Entry) (n : ℕ) : Type 0 where
   pub long : length es ≡ n
   pub outputs : (k : ℕ) (d : Entry) → k < n → (get_or es k d).output ≡ k
   pub ticks : All (λ e. e.tick ≡ s.device.base) es
+  pub offsets : All (λ e. e.offset ≡ 0) es
   pub ats : All (λ e. e.at ≡ 0) es
   pub rows : All (IsEntryOk s.device) es
 
@@ -35,14 +36,15 @@ first_none s = record {
   long = refl;
   outputs = λ k d lt. absurd (omega arith);
   ticks = All-nil (λ (e : Entry). e.tick ≡ s.device.base);
+  offsets = All-nil (λ (e : Entry). e.offset ≡ 0);
   ats = All-nil (λ (e : Entry). e.at ≡ 0);
   rows = All-nil (IsEntryOk s.device);
 }
 
 pub first_more : (s : SetupParts) (es : List Entry) (n : ℕ) (e : Entry) → AreFirst s es n
-    → e.output ≡ n → e.tick ≡ s.device.base → e.at ≡ 0 → IsEntryOk s.device e
+    → e.output ≡ n → e.tick ≡ s.device.base → e.offset ≡ 0 → e.at ≡ 0 → IsEntryOk s.device e
     → AreFirst s (es ++ e ∷ []) (n + 1)
-first_more s es n e f output tick at ok =
+first_more s es n e f output tick offset at ok =
     let l = f.long in let grown = length-append es (e ∷ []) in record {
       long = omega arith;
       outputs = λ k d lt. dite (ℕ_discrete k n)
@@ -51,6 +53,7 @@ first_more s es n e f output tick at ok =
           (λ other. ap (λ (x : Entry). x.output) (get_or_append_left es (e ∷ []) d k (omega arith))
           ∙ f.outputs k d (omega arith));
       ticks = All-push (λ (x : Entry). x.tick ≡ s.device.base) es e f.ticks tick;
+      offsets = All-push (λ (x : Entry). x.offset ≡ 0) es e f.offsets offset;
       ats = All-push (λ (x : Entry). x.at ≡ 0) es e f.ats at;
       rows = All-push (IsEntryOk s.device) es e f.rows ok;
     }
@@ -74,12 +77,13 @@ first_base s es setup f =
       rises = rises_append 0 0 [] es (omega arith) f.ats;
       covers = λ o t there since. found_row s.device es o t (selected es o t) f.rows refl
           (λ missed.
-          let e : Entry = record { output = 0; tick = 0; row = []; at = 0 } in
+          let e : Entry = record { output = 0; tick = 0; offset = 0; row = []; at = 0 } in
           let fails : rules due o t (get_or es o e) ≡ false =
           selected-missed due es o t missed o e (omega arith) in
           let output : (get_or es o e).output ≡ o = f.outputs o e there in
           let tick : (get_or es o e).tick ≡ s.device.base = f.ticks o e (omega arith) in
-          let begun : (get_or es o e).tick ≤ t = omega arith in
+          let offset : (get_or es o e).offset ≡ 0 = f.offsets o e (omega arith) in
+          let begun : due (get_or es o e) ≤ t = omega arith in
           let hit : rules due o t (get_or es o e) ≡ true = grind (arith, nat_tests) in
           absurd (true≢false (sym hit ∙ fails)));
     }

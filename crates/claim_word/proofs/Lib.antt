@@ -2,6 +2,8 @@ pub mod Spelling
 pub mod Writing
 pub mod Reading
 pub mod Bounds
+pub mod Chaining
+pub mod Holding
 pub mod Remembering
 pub mod Claiming
 pub mod Publishing

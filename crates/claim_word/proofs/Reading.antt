@@ -12,12 +12,12 @@ use Rattle.claim_rule.specs.declared.view.View.{View}
 use Rattle.claim_rule.specs.Claims.{IsSound, IsFit}
 use Rattle.claim_rule.specs.Words.{cell_word, entry_words}
 use Rattle.claim_rule.specs.Words.{IsByteCell}
-use Rattle.claim_word.specs.Claims.{read_on}
+use Rattle.claim_word.specs.Claims.{pieced_on, read_on}
 use Rattle.claim_word.proofs.Spelling.{byte_cells, long, row_word}
 
 -- an entry to read past the end of a list
 abbrev pub nobody : Entry
-nobody = record { output = 0; tick = 0; row = []; at = 0 }
+nobody = record { output = 0; tick = 0; offset = 0; row = []; at = 0 }
 
 -- the row so far
 abbrev pub AreSame : List Cell → List Cell → ℕ → Type 0
@@ -55,3 +55,11 @@ read_further v m n = let a : (v.loads + m) + n ≡ v.loads + (m + n) = omega ari
 
 pub read_nothing : (v : View) → v ≡ read_on v 0
 read_nothing v = let a : v.loads ≡ v.loads + 0 = omega arith in (λ k. record v { loads = a k })
+
+pub pieced_further : (v : View) (m n : ℕ) → pieced_on (pieced_on v m) n ≡ pieced_on v (m + n)
+pieced_further v m n = let a : (v.pieces + m) + n ≡ v.pieces + (m + n) = omega arith in
+    (λ k. record v { pieces = a k })
+
+pub pieced_nothing : (v : View) → v ≡ pieced_on v 0
+pieced_nothing v = let a : v.pieces ≡ v.pieces + 0 = omega arith in
+    (λ k. record v { pieces = a k })

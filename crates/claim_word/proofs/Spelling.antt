@@ -64,7 +64,8 @@ byte_cell d (From i c) device input channel =
 
 pub byte_cells : (plan : Plan) (e : Entry) → IsSound plan → IsFit plan e → All IsByteCell e.row
 byte_cells plan e sound fit k c lt =
-    let d : DeviceParts = plan.setup.device in let out = none_out d e.output e.row fit.ok.passes in
+    let d : DeviceParts = plan.setup.device in
+    let out = none_out d e.output e.row fit.ok.row.passes in
     let same : get_or e.row k Unrouted ≡ get_or e.row k c = get_or_default e.row k Unrouted c lt in
     subst IsByteCell same
     (byte_cell d (get_or e.row k Unrouted) sound.setup.device
@@ -76,9 +77,15 @@ byte_cells plan e sound fit k c lt =
 pub wide_of : (plan : Plan) (e : Entry) → IsSound plan → IsFit plan e → IsWide e
 wide_of plan e sound fit =
     let few = few_outputs plan sound in
-    let channels = channels_few plan.setup.device e.output sound.setup.device fit.ok.there in
-    let there = fit.ok.there in let long = fit.ok.long in
-    record { output = omega arith; tick = fit.tick; at = fit.at; row = omega (arith, channels.1) }
+    let channels = channels_few plan.setup.device e.output sound.setup.device fit.ok.row.there in
+    let there = fit.ok.row.there in let long = fit.ok.row.long in
+    record {
+      output = omega arith;
+      tick = fit.tick;
+      at = fit.at;
+      offset = omega (arith, fit.ok.offset, sound.setup.device.bounds.rate.2);
+      row = omega (arith, channels.1);
+    }
 
 -- the word of a cell
 pub row_word : (e : Entry) (k : ℕ) (c : Cell) → k < length e.row

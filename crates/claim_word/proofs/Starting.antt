@@ -17,6 +17,7 @@ use Rattle.claim_rule.specs.declared.plan.Start.{Start}
 use Rattle.claim_rule.specs.Claims.{plan_of, claims_at, IsSound, IsFit, IsTimely}
 use Rattle.claim_rule.specs.Rule.{IsListed, Opens, Rises}
 use Rattle.claim_rule.specs.Views.{opener}
+use Rattle.map_entry.specs.Tick.{frame_key}
 use Rattle.claim_rule.specs.Words.{places, state_word, stride, Spells}
 use Rattle.claim_rule.proofs.Lists.{rises_more}
 use Rattle.claim_word.specs.declared.span.Span.{Span}
@@ -64,7 +65,8 @@ module _ (s : SetupParts) (from ticks workers : ℕ) (base : List Entry) (setup 
           fits = planned_fits;
           covers = subst
               (λ (k : ℕ). HasRowsFrom s.device base
-              (claim_tick s.device.base (length s.device.outputs) k)) start given.covers;
+              (frame_key (claim_tick s.device.base (length s.device.outputs) k) 0)) start
+              given.covers;
           rises = rises_more 0 from (claims_at plan 0) base (omega arith) given.rises;
           timely = subst (All (IsTimely plan)) (sym (drop_all (length base) base (omega arith)))
               (All-nil (IsTimely plan));

@@ -1,6 +1,6 @@
 -- What a claim says, and what a worker's pass keeps. (This project's own.)
-use Rattle.std.specs.Prelude.{◌≡◌, ℕ, ◌+◌, ◌-◌, ◌*◌, ◌<◌, ◌≤◌, Bool, true, false, nat_lt, cond, not}
-use Rattle.std.specs.Prelude.{◌&&◌, eqb, List, [], map, filter, length, Some, slice_get}
+use Rattle.std.specs.Prelude.{◌≡◌, ℕ, ◌+◌, ◌-◌, ◌*◌, ◌<◌, ◌≤◌, Bool, true, false, nat_lt, cond}
+use Rattle.std.specs.Prelude.{List, [], map, filter, length, Some, slice_get}
 use Rattle.std.specs.Prelude.{slice_index_or, MatchBool, vec_capacity}
 use Rattle.std.specs.List.{All, AllZip, sum_by}
 use Rattle.map_entry.specs.declared.cell.Cell.{Cell}
@@ -8,19 +8,23 @@ use Rattle.map_entry.specs.declared.entry.Entry.{Entry}
 use Rattle.map_entry.specs.Entry.{selected, HasRowsFrom}
 use Rattle.map_entry.specs.Row.{channels_of_output}
 use Rattle.map_entry.specs.Setup.{HasCells}
+use Rattle.map_entry.specs.Tick.{frame_key}
 use Rattle.claim_rule.specs.declared.plan.Plan.{Plan}
 use Rattle.claim_rule.specs.declared.view.View.{View}
 use Rattle.claim_rule.specs.declared.view.Draw.{Draw}
 use Rattle.claim_rule.specs.Claims.{tick_of, output_of, IsSound, IsFit}
 use Rattle.claim_rule.specs.Words.{places, head_words}
+use Rattle.claim_rule.specs.Plays.{Knows}
 use Rattle.claim_rule.specs.Views.{Begins, draw, overs, times, drew}
-use Rattle.claim_word.specs.declared.memory.Head.{Head}
+use Rattle.claim_word.specs.declared.chain.Head.{Head}
 use Rattle.claim_word.specs.declared.memory.Memory.{Memory}
 use Rattle.claim_word.specs.declared.span.Span.{Span}
 use Rattle.claim_word.specs.declared.worker.Claim.{Claim}
 use Rattle.claim_word.specs.declared.worker.Claimed.{Claimed}
 use Rattle.claim_word.specs.declared.worker.Claimed.TheVariants.{Packet, Over}
 use Rattle.claim_word.specs.Faces.{PassFace, IsSpan}
+use Rattle.claim_word.specs.Chains.{HavePassed, IsChained}
+use Rattle.claim_word.specs.Holding.{IsHeld}
 
 -- ---- claims
 
@@ -99,37 +103,69 @@ IsFrugal v = v.loads ≤ head_words * length v.entries + sum_by (row_words v.pla
 abbrev pub read_on : View → ℕ → View
 read_on v n = record v { loads = v.loads + n }
 
+-- the view after a number of further loads for parts of packets
+abbrev pub pieced_on : View → ℕ → View
+pieced_on v n = record v { pieces = v.pieces + n }
+
 -- ---- what a pass remembers
 
--- what is remembered of an entry: its output and its tick
+-- what is remembered of an entry: its output, and the frame of a tick from which it counts
 abbrev pub head_of : Entry → Head
-head_of e = record { output = e.output; tick = e.tick }
+head_of e = record { output = e.output; tick = e.tick; offset = e.offset }
 
--- whether an entry with this head rules an output at a tick
-abbrev pub head_rules : ℕ → ℕ → Head → Bool
-head_rules output tick head = eqb head.output output && not (nat_lt tick head.tick)
+-- the first frame of the tick of a draw
+abbrev pub begin_of : Plan → ℕ → ℕ
+begin_of plan number = frame_key (tick_of plan number) 0
 
--- the row that rules the tick of a draw, over the entries of the view
+-- the row that rules the first frame of the tick of a draw, over the entries of the view
 abbrev pub HasRow : View → List (List Cell) → ℕ → Type 0
 HasRow v rows number =
-    selected v.entries (output_of v.plan number) (tick_of v.plan number) ≡ Some
+    selected v.entries (output_of v.plan number) (begin_of v.plan number) ≡ Some
     (slice_index_or rows (output_of v.plan number) [])
 
--- The heads of entries in front; a row for each output; and the row that rules the last claim, or
--- as many loads are left as it has channels.
+-- The heads of entries in front; chains through them, which have come to no later frame than the
+-- first of a draw's tick; rows for each output, and the places of their entries; and the row that
+-- rules the last claim, or as many loads are left as it has channels.
 pub record IsMemory (v : View) (m : Memory) : Type 0 where
   pub room : places ≤ vec_capacity m.heads
   pub heads : Begins m.heads.items (map head_of v.entries)
+  pub chains : IsChained m.heads.items (length v.plan.setup.device.outputs) m.chains
+  pub reached : ℕ
+  pub passed : HavePassed m.heads.items reached m.chains.tracks.items
+  pub begun : (number : ℕ) → All (λ d. d.number ≤ number) v.draws
+      → reached ≤ begin_of v.plan number
   pub rows : AllZip HasCells v.plan.setup.device.outputs m.rows.items
-  pub loads : v.loads ≤ length m.heads.items + sum_by (row_words v.plan) v.draws
+  pub parts : AllZip HasCells v.plan.setup.device.outputs m.parts.items
+  pub rows_held : IsHeld v.entries (length v.plan.setup.device.outputs) m.row_places.items
+      m.rows.items
+  pub parts_held : IsHeld v.entries (length v.plan.setup.device.outputs) m.part_places.items
+      m.parts.items
+  pub loads : v.loads ≤ head_words * length m.heads.items + sum_by (row_words v.plan) v.draws
   pub last : (number : ℕ) → IsLastDraw v number → number < v.plan.packets
       → MatchBool m.ready (HasRow v m.rows.items number)
-      (v.loads + channels_of_output v.plan.setup.device (output_of v.plan number) ≤ length
-      m.heads.items + sum_by (row_words v.plan) v.draws)
+      (v.loads + channels_of_output v.plan.setup.device (output_of v.plan number) ≤ head_words
+      * length m.heads.items + sum_by (row_words v.plan) v.draws)
 
--- What a worker's pass keeps: it may draw past the packets once; its claims are those of its draws;
--- and the entries that its last draw found have room, fit the plan and leave no output without a
--- row.
+-- the heads are those of all entries, and the chains lead through all of them and have come to no
+-- later frame than the first of a draw's tick
+pub record IsLearnt (v : View) (m : Memory) (number : ℕ) : Type 0 where
+  pub room : places ≤ vec_capacity m.heads
+  pub heads : m.heads.items ≡ map head_of v.entries
+  pub chains : IsChained m.heads.items (length v.plan.setup.device.outputs) m.chains
+  pub all : length m.chains.next.items ≡ length m.heads.items
+  pub passed : HavePassed m.heads.items (begin_of v.plan number) m.chains.tracks.items
+
+-- a seat has loaded what it did not know of the heads, and for a part of a packet at most the words
+-- of a row of an output
+pub record IsPieceRead (was is : Knows) (output : ℕ) : Type 0 where
+  pub heads : ℕ
+  pub words : ℕ
+  pub few : words ≤ channels_of_output was.0.plan.setup.device output
+  pub view : is ≡ (pieced_on (read_on was.0 heads) words, was.1)
+
+-- What a worker's pass keeps: it may draw past the packets once; its last draw has the greatest
+-- number; its claims are those of its draws; and the entries that its last draw found have room,
+-- fit the plan and leave no output without a row.
 pub record IsWorker (v : View) (span : Span) (claims : List ℕ) (room : ℕ) (ended : Bool) : Type 0
   where
     pub sound : IsSound v.plan
@@ -138,9 +174,10 @@ pub record IsWorker (v : View) (span : Span) (claims : List ℕ) (room : ℕ) (e
     pub quiet : v.publishes ≡ false
     pub part : v.parts ≡ 1
     pub early : ended ≡ false → overs v.plan v ≡ 0
+    pub top : (number : ℕ) → IsLastDraw v number → All (λ d. d.number ≤ number) v.draws
     pub over : ended ≡ true → HasOver v.plan.packets v.draws
     pub claims_are : claims ≡ claims_of v.plan v.draws
     pub room_is : v.plan.packets ≤ room
     pub few : length v.entries ≤ places
     pub fits : All (IsFit v.plan) v.entries
-    pub covers : 0 < length v.draws → HasRowsFrom v.plan.setup.device v.entries (tick_of v.plan 0)
+    pub covers : 0 < length v.draws → HasRowsFrom v.plan.setup.device v.entries (begin_of v.plan 0)

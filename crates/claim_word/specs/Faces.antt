@@ -53,3 +53,4 @@ pub record IsSpan (plan : Plan) (span : Span) : Type 0 where
   pub outputs_is : span.outputs ≡ outputs_of plan
   pub from_is : span.from ≡ plan.from
   pub packets_is : span.packets ≡ plan.packets
+  pub frames_is : span.frames ≡ plan.setup.device.rate.frames

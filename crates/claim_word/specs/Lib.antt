@@ -1,5 +1,7 @@
 pub mod Shelf
 pub mod Faces
+pub mod Chains
+pub mod Holding
 pub mod Claims
 pub mod Lending
 pub mod States

@@ -13,7 +13,8 @@ use Rattle.claim_rule.specs.Claims.{IsSound, IsFit}
 use Rattle.claim_rule.specs.Words.{places, stride, Spells}
 use Rattle.claim_rule.specs.Views.{without_part, worker, note}
 use Rattle.claim_word.specs.declared.span.Span.{Span}
-use Rattle.claim_word.specs.Faces.{TableFace, PassFace, ClientFace, PublisherFace, IsSpan, IsPassOf}
+use Rattle.claim_word.specs.Faces.{TableFace, PassFace, ClientFace, PublisherFace, IsSpan}
+use Rattle.claim_word.specs.Faces.{IsPassOf}
 use Rattle.claim_word.specs.Faces.{IsClientOf}
 
 -- a worker's pass is made: a new one, of the table, where as many are not made as there may be

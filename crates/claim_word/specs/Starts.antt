@@ -5,7 +5,7 @@ use Rattle.io_caps.specs.declared.limits.TheConstants.{MOST_BASE_ENTRIES}
 use Rattle.map_entry.specs.declared.entry.Entry.{Entry}
 use Rattle.map_entry.specs.Entry.{IsEntryOk, HasRowsFrom}
 use Rattle.map_entry.specs.Setup.{SetupParts}
-use Rattle.map_entry.specs.Tick.{claim_tick}
+use Rattle.map_entry.specs.Tick.{claim_tick, frame_key}
 use Rattle.claim_rule.specs.declared.plan.Plan.{Plan}
 use Rattle.claim_rule.specs.declared.words.TheConstants.{TICKS_LIMIT}
 use Rattle.claim_rule.specs.Rule.{Rises}
@@ -30,7 +30,8 @@ pub record IsBase (s : SetupParts) (from : ℕ) (base : List Entry) : Type 0 whe
   pub rows : All (IsEntryOk s.device) base
   pub ticks : All (λ e. e.tick < TICKS_LIMIT) base
   pub rises : Rises 0 base from
-  pub covers : HasRowsFrom s.device base (claim_tick s.device.base (length s.device.outputs) from)
+  pub covers : HasRowsFrom s.device base
+      (frame_key (claim_tick s.device.base (length s.device.outputs) from) 0)
 
 -- a table of this plan, and its publisher, which has seen and made nothing yet
 pub record IsStarted (plan : Plan) (base : List Entry) (t : TableFace) (p : PublisherFace) : Type 0

@@ -4,7 +4,7 @@ use Rattle.std.specs.Prelude.{count_by}
 use Rattle.std.specs.List.{All, Contains}
 use Rattle.map_entry.specs.declared.claims.TheConstants.{CLAIMS_LIMIT}
 use Rattle.map_entry.specs.declared.entry.Entry.{Entry}
-use Rattle.map_entry.specs.Entry.{due, IsEntryOk}
+use Rattle.map_entry.specs.Entry.{IsEntryOk}
 use Rattle.map_entry.specs.Setup.{SetupParts}
 use Rattle.map_entry.specs.Tick.{first_tick}
 use Rattle.claim_rule.specs.declared.plan.Plan.{Plan}
@@ -43,7 +43,7 @@ pub record ArePublishable (s : SetupParts) (claims : ℕ) (entries new : List En
   pub ats : All (λ e. e.at ≡ claims) new
   pub rows : All (IsEntryOk s.device) new
   pub ticks : All (λ e. e.tick < TICKS_LIMIT) new
-  pub timely : All (λ e. first_tick s.device.base (length s.device.outputs) e.at ≤ due e) new
+  pub timely : All (λ e. first_tick s.device.base (length s.device.outputs) e.at ≤ e.tick) new
 
 -- the new entries follow the others, all at once, and nothing else changes but the words of
 -- places
@@ -57,7 +57,7 @@ IsMissed v w raw = w ≡ record (saw v raw (length v.entries)) { cells = w.cells
 
 -- whether an entry counted from a tick above the first one not begun when it came to the table
 abbrev pub is_above : Plan → Entry → Bool
-is_above plan e = nat_lt (begin plan (max plan.from e.at)) (due e)
+is_above plan e = nat_lt (begin plan (max plan.from e.at)) e.tick
 
 -- the places left, where an entry that came before its tick keeps a second place for its deletion
 abbrev pub places_left : Plan → List Entry → ℕ

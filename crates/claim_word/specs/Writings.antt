@@ -14,6 +14,7 @@ pub record IsWide (e : Entry) : Type 0 where
   pub output : e.output < 2 ^ 6
   pub tick : e.tick < TICKS_LIMIT
   pub at : e.at < CLAIMS_LIMIT
+  pub offset : e.offset < 2 ^ 8
   pub row : length e.row ≤ MOST_CHANNELS
 
 -- the view after an entry was written at a place: nothing changes but words, and none in front of

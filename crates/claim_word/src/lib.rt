@@ -2,6 +2,7 @@
 //! entries by one atomic exchange each, on the same word. No call here waits.
 #![tactic(auto)]
 
+mod chain;
 mod client;
 mod end;
 mod lay;
@@ -23,7 +24,7 @@ use io_caps::{ListOf, Numbers};
 pub use publisher::Publisher;
 pub use state::{Moved, State};
 pub use table::ClaimTable;
-pub use worker::{Claim, Claimed, WorkerPass};
+pub use worker::{Claim, Claimed, Piece, WorkerPass};
 
 /// The workers' passes of a table.
 pub type WorkerPasses = ListOf<WorkerPass>;

@@ -1,6 +1,7 @@
 //! How a publisher makes passes.
 
-ghost use Rattle.std.specs.Prelude.{◌≡◌, ◌≤◌, [], MatchResult, IfOk, vec_capacity};
+ghost use Rattle.std.specs.Prelude.{◌≡◌, ◌≤◌, [], length, replicate, MatchResult, IfOk, None};
+ghost use Rattle.std.specs.Prelude.{vec_capacity};
 ghost use Rattle.io_caps.specs.declared.limits.TheConstants.{CLIENTS};
 ghost use Rattle.claim_rule.specs.Words.{places};
 ghost use Rattle.claim_word.specs.Faces.{IsPublisherOf};
@@ -30,7 +31,16 @@ impl Room {
             × (packets ≤ vec_capacity r.claims)) }
         ensures heads { IfOk result (λ r. (r.memory.heads.items ≡ [])
             × (places ≤ vec_capacity r.memory.heads)) }
+        ensures next { IfOk result (λ r. (r.memory.chains.next.items ≡ [])
+            × (places ≤ vec_capacity r.memory.chains.next)) }
+        ensures tracks { IfOk result
+            (λ r. r.memory.chains.tracks.items ≡ replicate (length rows.now) None) }
         ensures rows { IfOk result (λ r. r.memory.rows.items ≡ rows.now) }
+        ensures parts { IfOk result (λ r. r.memory.parts.items ≡ rows.now) }
+        ensures row_places { IfOk result
+            (λ r. r.memory.row_places.items ≡ replicate (length rows.now) None) }
+        ensures part_places { IfOk result
+            (λ r. r.memory.part_places.items ≡ replicate (length rows.now) None) }
     {
         Ok(Room {
             claims: Vec::with_capacity(alloc, packets as usize)?,

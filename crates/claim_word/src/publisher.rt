@@ -5,7 +5,6 @@ ghost use Rattle.std.specs.Prelude.{length, count_by, OnOk};
 ghost use Rattle.std.specs.Prelude.{IfErr};
 ghost use Rattle.std.specs.List.{All};
 ghost use Rattle.map_entry.specs.Tick.{first_tick};
-ghost use Rattle.map_entry.specs.Entry.{due};
 ghost use Rattle.claim_rule.specs.Words.{places};
 ghost use Rattle.claim_word.specs.Faces.{IsPublisherOf};
 ghost use Rattle.claim_word.specs.States.{ArePublishable, HasSeen, IsMissed, IsPublished, IsState};
@@ -141,7 +140,7 @@ impl Span {
             (max self.now.from entry.now.at) < 2 ^ 64 }
         ensures { result ≡ nat_lt
             (first_tick self.now.base self.now.outputs (max self.now.from entry.now.at))
-            (due entry.now) }
+            entry.now.tick }
     {
         first_tick(self.base, self.outputs, self.from.max(entry.at)) < entry.tick
     }
@@ -154,7 +153,7 @@ impl Span {
             entries.now }
         ensures value { result ≡ count_by
             (λ e. nat_lt (first_tick self.now.base self.now.outputs (max self.now.from e.at))
-            (due e)) entries.now }
+            e.tick) entries.now }
         ensures few { result ≤ length entries.now }
     {
         let mut above = 0;

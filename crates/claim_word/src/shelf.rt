@@ -53,8 +53,13 @@ impl Shelf {
     {
         if let Some(mut row) = self.spare.pop() {
             fill(&mut row, &entry.row);
-            self.entries
-                .push_reserved(Entry::new(entry.output, entry.tick, row, entry.at));
+            self.entries.push_reserved(Entry::new(
+                entry.output,
+                entry.tick,
+                entry.offset,
+                row,
+                entry.at,
+            ));
         }
     }
 

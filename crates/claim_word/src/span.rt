@@ -16,6 +16,8 @@ pub(crate) struct Span {
     pub from: u64,
     /// How many packets the table has.
     pub packets: u64,
+    /// The frames of a tick.
+    pub frames: u16,
 }
 
 impl Span {

@@ -85,6 +85,7 @@ impl ClaimTable {
                 outputs,
                 from,
                 packets,
+                frames: setup.device.rate().frames,
             },
             workers,
             made: 0,

@@ -125,12 +125,13 @@ fn base_entry(setup: &Setup, output: u8) -> Result<Entry, NoMemory>
     requires { output < length setup.now.device.outputs }
     ensures output { IfOk result (λ e. e.output ≡ output) }
     ensures tick { IfOk result (λ e. e.tick ≡ setup.now.device.base) }
+    ensures offset { IfOk result (λ e. e.offset ≡ 0) }
     ensures at { IfOk result (λ e. e.at ≡ 0) }
     ensures ok { IfOk result (IsEntryOk setup.now.device) }
 {
     let rows = setup.rows.as_slice();
     let row = rows[output as usize].copy()?;
-    Ok(Entry::new(output, setup.device.base(), row, 0))
+    Ok(Entry::new(output, setup.device.base(), 0, row, 0))
 }
 
 fn base_entries(alloc: Global, setup: &Setup) -> Result<Entries, NoMemory>
@@ -246,6 +247,7 @@ fn publish(
     publisher: &mut Publisher,
     seen: State,
     new: New,
+    offset: u16,
 ) -> Result<Option<u32>, Fail>
     requires setup { table.now.plan.setup ≡ setup.now }
     requires of { IsPublisherOf table.now publisher.old }
@@ -255,11 +257,14 @@ fn publish(
     ensures clients { publisher.new.clients ≡ publisher.old.clients }
 {
     let (output, tick, cells) = new;
-    let entry = Entry::new(output, tick, row(alloc, cells)?, seen.claims);
+    let entry = Entry::new(output, tick, offset, row(alloc, cells)?, seen.claims);
     if publisher.entries().len() >= PLACES as usize {
         return Err("a place".into());
     }
-    if !is_row(&setup.device, output, &entry.row) || !is_timely(&setup.device, seen.claims, tick) {
+    if !is_row(&setup.device, output, &entry.row)
+        || !is_timely(&setup.device, seen.claims, tick)
+        || offset >= setup.device.rate().frames
+    {
         return Err("an entry that may come".into());
     }
     let entries = only(alloc, entry)?;
@@ -294,6 +299,32 @@ fn next_row(table: &ClaimTable, pass: &mut WorkerPass) -> Result<[Cell; 2], Fail
     }
 }
 
+/// The row from a frame of the next packet on, and up to which frame.
+fn next_part(
+    setup: &Setup,
+    table: &ClaimTable,
+    pass: &mut WorkerPass,
+    frame: u16,
+) -> Result<([Cell; 2], u16), Fail>
+    requires setup { table.now.plan.setup ≡ setup.now }
+    requires of { IsPassOf table.now pass.old }
+    ensures { IsPassOf table.now pass.new }
+{
+    if frame >= setup.device.rate().frames {
+        return Err("a frame of the tick".into());
+    }
+    match pass.claim(table) {
+        Claimed::Packet(claim) => {
+            let Piece { row, upto } = pass.row_from(table, &claim, frame);
+            match row.as_slice() {
+                [left, right] => Ok(([*left, *right], upto)),
+                _ => Err("two cells".into()),
+            }
+        }
+        Claimed::Over => Err("a packet".into()),
+    }
+}
+
 impl Running {
     /// Publishes an entry: how many numbers were drawn meanwhile, if it did not come.
     fn add(&mut self, alloc: Global, new: New) -> Result<Option<u32>, Fail> {
@@ -305,6 +336,21 @@ impl Running {
             &mut self.publisher,
             seen,
             new,
+            0,
+        )
+    }
+
+    /// Publishes an entry that counts from a frame of its tick.
+    fn add_at(&mut self, alloc: Global, new: New, offset: u16) -> Result<Option<u32>, Fail> {
+        let seen = self.publisher.state(&self.table);
+        publish(
+            alloc,
+            &self.setup,
+            &self.table,
+            &mut self.publisher,
+            seen,
+            new,
+            offset,
         )
     }
 
@@ -320,6 +366,7 @@ impl Running {
             &mut self.publisher,
             seen,
             new,
+            0,
         )?;
         Ok((number, moved))
     }
@@ -330,6 +377,10 @@ impl Running {
 
     fn next_row(&mut self) -> Result<[Cell; 2], Fail> {
         next_row(&self.table, &mut self.pass)
+    }
+
+    fn next_part(&mut self, frame: u16) -> Result<([Cell; 2], u16), Fail> {
+        next_part(&self.setup, &self.table, &mut self.pass, frame)
     }
 
     /// What a client sees that the publisher told, and that tells the publisher.
@@ -422,13 +473,26 @@ fn rows_by_hand(rt: HostRuntime) -> Result<(), Fail> {
 }
 
 #[test]
+fn row_pieces_by_hand(rt: HostRuntime) -> Result<(), Fail> {
+    let alloc = rt.alloc();
+    for (frame, wanted) in [(0, ([NONE, NONE], 1)), (1, ([LEFT, NONE], 2))] {
+        let mut running = start(alloc, 2)?;
+        assert_eq!(rt; running.add_at(alloc, (0, 1, [LEFT, NONE]), 1)?, None);
+        assert_eq!(rt; running.next_part(0)?, ([NONE, NONE], 2));
+        assert_eq!(rt; running.next(), Some(1));
+        assert_eq!(rt; running.next_part(frame)?, wanted);
+    }
+    Ok(())
+}
+
+#[test]
 fn states_are_told(rt: HostRuntime) -> Result<(), Fail> {
     let alloc = rt.alloc();
     let mut running = start(alloc, 1)?;
-    assert_eq!(rt; running.publisher.places(), 510);
+    assert_eq!(rt; running.publisher.places(), 1022);
     assert_eq!(rt; running.add(alloc, (0, 1, [LEFT, NONE]))?, None);
     // one that came before its tick keeps a second place
-    assert_eq!(rt; running.publisher.places(), 508);
+    assert_eq!(rt; running.publisher.places(), 1020);
     let wanted = State {
         raw: 0,
         claims: 0,

@@ -1,8 +1,9 @@
 //! A worker's pass: claims, and the rows that rule them.
 
-ghost use Rattle.std.specs.Prelude.{◌≡◌, ◌<◌, true, false, Some};
-ghost use Rattle.map_entry.specs.Entry.{selected};
+ghost use Rattle.std.specs.Prelude.{◌≡◌, ◌≤◌, ◌<◌, ℕ, true, false, Some};
+ghost use Rattle.map_entry.specs.Entry.{IsPiece, selected};
 ghost use Rattle.map_entry.specs.Row.{IsRowOf};
+ghost use Rattle.map_entry.specs.Tick.{frame_key};
 ghost use Rattle.claim_rule.specs.Claims.{IsSound, outputs_of};
 ghost use Rattle.claim_word.specs.Faces.{IsPassOf};
 ghost use Rattle.claim_word.specs.Claims.{IsDrawn, IsFrugal, IsLast, IsLate, OnPacket, is_over};
@@ -62,6 +63,13 @@ pub enum Claimed {
     Over,
 }
 
+/// A row of a packet, and the frame up to which it rules.
+#[derive(Clone, Copy, Debug)]
+pub struct Piece<'a> {
+    pub row: &'a Row,
+    pub upto: u16,
+}
+
 /// A worker's right to claim packets.
 #[derive(Drop)]
 pub struct WorkerPass {
@@ -88,7 +96,7 @@ impl Model for WorkerPass {
 
 impl WorkerPass {
     ghost use Rattle.std.specs.Borrow.{sem};
-    ghost use Rattle.claim_word.specs.Lending.{EndsRead};
+    ghost use Rattle.claim_word.specs.Lending.{EndsPieced, EndsRead};
 
     /// Claims the next packet by one atomic addition, or tells that all are claimed; from then on
     /// it tells so without a step.
@@ -126,17 +134,43 @@ impl WorkerPass {
         })
     }
 
-    /// The row that rules the claim's packet, by the entries that its draw found. The claim is the
-    /// pass's last.
+    /// The row that rules the first frame of the claim's packet, by the entries that its draw
+    /// found. The claim is the pass's last.
     pub fn row(&mut self, table: &ClaimTable, claim: &Claim) -> &Row
         requires pass { IsPassOf table.now self.old }
         requires last { IsLast self.old.view claim.now }
         ensures* after { sem 𝓛 (EndsRead self.entry claim.now) }
-        ensures row { selected self.old.view.entries claim.now.output claim.now.tick
+        ensures row { selected self.old.view.entries claim.now.output (frame_key claim.now.tick 0)
             ≡ Some result.now }
         ensures fits { IsRowOf self.old.view.plan.setup.device claim.now.output result.now }
+        ensures sound { IsSound self.old.view.plan }
     {
         self.memory.find(table, &mut self.seat, claim);
         &self.memory.rows[claim.output as usize]
+    }
+
+    /// The row that rules a frame of the claim's packet, by the entries that its draw found, and
+    /// the frame up to which it does. The claim is the pass's last.
+    pub fn row_from(&mut self, table: &ClaimTable, claim: &Claim, frame: u16) -> Piece<'_>
+        requires pass { IsPassOf table.now self.old }
+        requires last { IsLast self.old.view claim.now }
+        requires frame { frame < self.old.view.plan.setup.device.rate.frames }
+        ensures* after { sem 𝓛 (EndsPieced self.entry claim.now) }
+        ensures row { (f : ℕ) → frame ≤ f → f < result.upto
+            → selected self.old.view.entries claim.now.output (frame_key claim.now.tick f)
+            ≡ Some result.row.now }
+        ensures piece { IsPiece self.old.view.entries claim.now.output claim.now.tick frame
+            self.old.view.plan.setup.device.rate.frames result.upto }
+        ensures fits { IsRowOf self.old.view.plan.setup.device claim.now.output result.row.now }
+        ensures sound { IsSound self.old.view.plan }
+    {
+        let frames = self.span.frames;
+        let upto = self
+            .memory
+            .find_from(table, &mut self.seat, claim, frame, frames);
+        Piece {
+            row: &self.memory.parts[claim.output as usize],
+            upto,
+        }
     }
 }

@@ -19,11 +19,15 @@ pub(crate) fn heads_of(entry: &Entry) -> (u64, u64)
     requires tick { entry.now.tick < TICKS_LIMIT }
     requires output { entry.now.output < 2 ^ 6 }
     requires at { entry.now.at < CLAIMS_LIMIT }
-    ensures { result ≡ (entry.now.tick * 2 ^ 6 + entry.now.output, entry.now.at * 2 ^ 8) }
+    requires offset { entry.now.offset < 2 ^ 8 }
+    ensures { result ≡ (
+      entry.now.tick * 2 ^ 6 + entry.now.output,
+      entry.now.at * 2 ^ 8 + entry.now.offset,
+    ) }
 {
     (
         entry.tick * (1 << 6) + u64::from(entry.output),
-        entry.at * (1 << 8),
+        entry.at * (1 << 8) + u64::from(entry.offset),
     )
 }
 

@@ -15,7 +15,7 @@ loop-output-preserved c =
     let e = c.in_ok-entry.ensures in
     subst (λ (es : List Entry). AreFirst s es (o + 1)) (sym c.in_ok-push.ensures.ok)
     (first_more s c.loop-output.made o c.in_ok-entry.entry c.loop-output.invariant e.output e.tick
-    e.at e.ok)
+    e.offset e.at e.ok)
 
 pub returns-clause-base : goal.returns-clause-base
 returns-clause-base c =

@@ -20,6 +20,9 @@ returns-clause-ok c =
     let read = slice_get_read s.rows _ o _ refl (omega (arith, c.requires, rows_long s valid))
     (rw rows at c.index-rows-output.is) in
     subst (IsEntryOk s.device)
-    (sym (c.new.ensures ∙ ap (λ (r : List Cell). entry_of o c.base.result r 0)
+    (sym (c.new.ensures ∙ ap (λ (r : List Cell). entry_of o c.base.result 0 r 0)
     c.in_ok-row.ensures))
-    (base_row s o c.index-rows-output.result valid read)
+    (record {
+      row = base_row s o c.index-rows-output.result valid read;
+      offset = valid.device.bounds.rate.1;
+    })

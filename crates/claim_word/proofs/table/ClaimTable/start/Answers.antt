@@ -1,5 +1,6 @@
 use Rattle.std.proofs.Common.{ℕ, ◌≡◌, ◌*◌, List, ◌++◌, length, refl, sym, ap, ◌∙◌, subst}
 use Rattle.map_entry.specs.declared.entry.Entry.{Entry}
+use Rattle.io_caps.specs.declared.rate.Rate.{Rate}
 use Rattle.map_entry.specs.Setup.{SetupParts, IsSetup, HasCells}
 use Rattle.claim_rule.specs.declared.plan.Start.{Start}
 use Rattle.claim_rule.specs.declared.view.View.{View}
@@ -90,11 +91,14 @@ invariant_of-publisher c =
       outputs = c.outputs-outputs.result;
       from = from;
       packets = ticks * c.outputs-outputs.result;
+      frames = c.rate.result.frames;
     }) = record {
       base_is = c.base.ensures.value ∙ ap (λ (z : SetupParts). z.device.base) c.setup.view_is;
       outputs_is = n;
       from_is = refl;
       packets_is = ap (λ (k : ℕ). ticks * k) n;
+      frames_is = ap (λ (r : Rate). r.frames) c.rate.ensures.value
+          ∙ ap (λ (z : SetupParts). z.device.rate.frames) c.setup.view_is;
     } in
     let shelf : c.keep_all.new.self ≡ base = c.keep_all.ensures
     ∙ (λ k. c.in_ok-shelf.ensures k ++ c.as_slice.ensures k) in
@@ -106,6 +110,7 @@ invariant_of-publisher c =
             outputs = c.outputs-outputs.result;
             from = from;
             packets = ticks * c.outputs-outputs.result;
+            frames = c.rate.result.frames;
           }) 0 0 c.keep_all.new.self
           c.in_ok-rows.rows)
           (sym (ap (λ m. m.0) made))

@@ -45,7 +45,7 @@ invariant_of-self c =
           (vec_capacity c.self.inside.claims) true) (sym now)
           (worker_over v c.self.inside.span c.self.inside.claims.items
           (vec_capacity c.self.inside.claims) number c.fetch_add-word.result found p told.4
-          over),
+          told.5 over),
       subst (λ (w : View). IsMemory w c.self.inside.memory) (sym now)
           (memory_over v c.self.inside.memory number found c.self.invariant.1 told.3 over),
       ap (λ m. m.1) told.1 ∙ c.self.invariant.2,
@@ -99,7 +99,7 @@ invariant_of-self-2 c =
           (λ k. (sym now k, sym claims k, sym push.capacity k, sym c.if-self.false k))
           (worker_packet v c.self.inside.span c.self.inside.claims.items
           (vec_capacity c.self.inside.claims) number c.fetch_add-word.result found p told.4
-          packet),
+          told.5 packet),
       subst (λ (w : View). IsMemory w (record c.self.inside.memory { ready = false })) (sym now)
           (memory_packet v c.self.inside.memory number found c.self.invariant.1 told.3 packet),
       ap (λ m. m.1) told.1 ∙ c.self.invariant.2,

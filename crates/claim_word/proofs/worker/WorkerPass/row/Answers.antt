@@ -9,10 +9,12 @@ use Rattle.map_entry.specs.Row.{channels_of_output, IsRowOf}
 use Rattle.map_entry.proofs.Entries.{selected_row}
 use Rattle.map_entry.specs.Setup.{HasCells}
 use Rattle.claim_rule.specs.declared.view.View.{View}
-use Rattle.claim_rule.specs.Claims.{outputs_of, IsFit}
-use Rattle.claim_word.specs.Claims.{number_of, IsLast, read_on}
+use Rattle.claim_rule.specs.Claims.{outputs_of, IsFit, IsSound}
+use Rattle.map_entry.specs.Tick.{frame_key}
+use Rattle.claim_word.specs.Claims.{number_of, IsLast, IsWorker, read_on}
+use Rattle.std.specs.Prelude.{vec_capacity}
 use Rattle.claim_word.specs.Faces.{PassFace}
-use Rattle.claim_word.proofs.Claiming.{frugal_of, output_there}
+use Rattle.claim_word.proofs.Claiming.{frugal_of, output_there, worker_read}
 use Rattle.claim_word.proofs.Remembering.{rows_there}
 use Rattle.claim_word.proofs.worker.WorkerPass.row.Goals as goal
 use Rattle.claim_word.proofs.worker.WorkerPass.row.Goals.{After-find}
@@ -59,9 +61,9 @@ returns c =
     } in
     let pass : is ≡ record was { view = read_on v n } =
     (λ k. record { id = c.find.ensures.seat.0 k; view = now k; ended = c.self.inside.ended }) in
-    let chosen : selected c.args.self.now.view.entries o c.args.claim.now.tick ≡ Some
+    let chosen : selected c.args.self.now.view.entries o (frame_key c.args.claim.now.tick 0) ≡ Some
     c.index.result.now =
-    (λ k. selected (sym same k).entries o c.args.claim.now.tick)
+    (λ k. selected (sym same k).entries o (frame_key c.args.claim.now.tick 0))
     ∙ (c.find.ensures.row ∙ ap Some (sym row)) in
     let oks : All (IsEntryOk v.plan.setup.device) v.entries =
     All-weaker (IsFit v.plan) (IsEntryOk v.plan.setup.device)
@@ -81,7 +83,20 @@ returns c =
         after = tt;
         row = chosen;
         fits = subst (λ (u : View). IsRowOf u.plan.setup.device o c.index.result.now) same
-            (selected_row v.plan.setup.device v.entries o c.args.claim.now.tick c.index.result.now
-            oks (c.find.ensures.row ∙ ap Some (sym row)));
+            (selected_row v.plan.setup.device v.entries o (frame_key c.args.claim.now.tick 0)
+            c.index.result.now oks (c.find.ensures.row ∙ ap Some (sym row)));
+        sound = subst (λ (u : View). IsSound u.plan) same c.self.invariant.0.sound;
       },
+    )
+
+pub invariant_of-self : goal.invariant_of-self
+invariant_of-self c =
+    let v : View = c.self.inside.seat.me.0 in let read = c.find.ensures.view in
+    let now : c.find.new.seat.me.0 ≡ read_on v read.0 = ap (λ m. m.0) read.1 in (
+      subst (λ (w : View). IsWorker w c.self.inside.span c.self.inside.claims.items
+          (vec_capacity c.self.inside.claims) c.self.inside.ended) (sym now)
+          (worker_read v c.self.inside.span c.self.inside.claims.items
+          (vec_capacity c.self.inside.claims) read.0 c.self.inside.ended c.self.invariant.0),
+      c.find.ensures.memory,
+      ap (λ m. m.1) read.1 ∙ c.self.invariant.2,
     )
