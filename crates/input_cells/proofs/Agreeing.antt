@@ -10,7 +10,7 @@ use Rattle.map_entry.specs.Row.{channels_of}
 use Rattle.packet_writer.specs.Heard.{sample_in}
 use Rattle.input_rule.specs.declared.view.Shape.{Shape}
 use Rattle.input_rule.specs.declared.view.Look.{Look}
-use Rattle.input_rule.specs.declared.view.Heard.{Heard}
+use Rattle.input_rule.specs.declared.view.HeardSample.{HeardSample}
 use Rattle.input_rule.specs.Words.{block_at, block_len, sample_at, samples_at}
 use Rattle.input_rule.proofs.Blocks.{block_cases, block_gone, block_there}
 use Rattle.input_cells.specs.Agreement.{Agrees, AreTrue, AreTrueOf, blocks_set}
@@ -46,7 +46,7 @@ all_looks P (p ∷ ps) h =
     All-append P p.view.looks (looks_of ps) (h 0 p (omega arith))
     (all_looks P ps (λ k d lt. h (suc k) d (omega arith)))
 
-all_heard : (P : Heard → Type 0) (pass : List SeatFace)
+all_heard : (P : HeardSample → Type 0) (pass : List SeatFace)
     → ((k : ℕ) (d : SeatFace) → k < length pass → All P (get_or pass k d).view.heard)
     → All P (heard_of pass)
 all_heard P [] h = All-nil P
@@ -134,7 +134,7 @@ module _ (d : DeviceParts) (from ticks : ℕ) (table : List InputFace) (feeds pa
     read = all_heard (λ x. sample_in (blocks_set feeds x.input x.tick) x.place ≡ x.value) pass
         (λ k e lt i g low.
         let long = feeds_long k lt in let w = (true_at k e lt).heard i g low in
-        let x : Heard = get_or (get_or pass k e).view.heard i g in
+        let x : HeardSample = get_or (get_or pass k e).view.heard i g in
         sample_in_block (get_or feeds k e).view.shape (get_or feeds k e).view.words x.tick x.place
         (blocks_set feeds x.input x.tick)
         (here k x.input x.tick e long w.input

@@ -13,7 +13,7 @@ use Rattle.io_caps.specs.declared.device.DeviceParts.{DeviceParts}
 use Rattle.map_entry.specs.Row.{channels_of}
 use Rattle.packet_writer.specs.Heard.{HasFrames, HaveFrames, TickBlocks, channel_samples, sample_in}
 use Rattle.packet_writer.specs.Packet.{Blocks, found_block}
-use Rattle.input_rule.specs.declared.view.Heard.{Heard}
+use Rattle.input_rule.specs.declared.view.HeardSample.{HeardSample}
 use Rattle.input_rule.specs.declared.view.Look.{Look}
 use Rattle.input_rule.specs.declared.view.Shape.{Shape}
 use Rattle.input_rule.specs.declared.view.View.{View}
@@ -108,7 +108,7 @@ copied_channel v tick channels channel frame block out count is heard len =
     let h = heard n (omega arith) in
     let place : (frame + n) * channels + channel ≡ frame * channels + channel + n * channels =
     grind arith in
-    let read = All-contains (λ (x : Heard). x.input ≡ v.shape.input → x.tick ≡ tick
+    let read = All-contains (λ (x : HeardSample). x.input ≡ v.shape.input → x.tick ≡ tick
     → sample_in block x.place ≡ x.value) v.heard h.heard is.read h.among in
     ap (sample_in block) (place ∙ sym h.place_is) ∙ (read h.input_is h.tick_is ∙ h.value_is)))
     ∙ ap (λ (n : ℕ). channel_samples block channels channel frame n) len
@@ -158,9 +158,9 @@ less_heard tick block p q g h =
       there = h.there;
       shape = subst (λ (z : Shape). IfSome block (λ samples. length samples ≡ block_len z)) shape
           h.shape;
-      read = on_all (λ (x : Heard). x.input ≡ p.view.shape.input → x.tick ≡ tick
+      read = on_all (λ (x : HeardSample). x.input ≡ p.view.shape.input → x.tick ≡ tick
           → sample_in block x.place ≡ x.value) p.view.heard q.view.heard g.heard
-          (subst (λ (z : Shape). All (λ (x : Heard). x.input ≡ z.input → x.tick ≡ tick
+          (subst (λ (z : Shape). All (λ (x : HeardSample). x.input ≡ z.input → x.tick ≡ tick
           → sample_in block x.place ≡ x.value) q.view.heard) shape h.read);
     }
 
@@ -288,7 +288,8 @@ looks_held P (p ∷ ps) zero d lt h = All-left P p.view.looks (looks_of ps) h
 looks_held P (p ∷ ps) (suc k) d lt h =
     looks_held P ps k d (omega arith) (All-right P p.view.looks (looks_of ps) h)
 
-heard_at : (P : Heard → Type 0) (pass : List SeatFace) (k : ℕ) (d : SeatFace) → k < length pass
+heard_at : (P : HeardSample → Type 0) (pass : List SeatFace) (k : ℕ) (d : SeatFace)
+    → k < length pass
     → All P (heard_of pass) → All P (get_or pass k d).view.heard
 heard_at P [] k d lt h = absurd (omega arith)
 heard_at P (p ∷ ps) zero d lt h = All-left P p.view.heard (heard_of ps) h
@@ -341,7 +342,8 @@ agreeing d from ticks table pass tick flags blocks of_it is seen a = record {
           shape = subst (λ (n : ℕ). IfSome (blocks input tick) (λ samples. length samples ≡ n))
               (sym (ap (λ (z : Shape). block_len z) shape)) (a.shape input tick few);
           read = λ k x low its_input its_tick. let read =
-              heard_at (λ (y : Heard). sample_in (blocks y.input y.tick) y.place ≡ y.value) pass
+              heard_at (λ (y : HeardSample). sample_in (blocks y.input y.tick) y.place
+              ≡ y.value) pass
               input e lt a.read in
               (λ j. sample_in (blocks (sym (its_input ∙ number) j) (sym its_tick j))
               (get_or v.heard k x).place) ∙ read k x low;

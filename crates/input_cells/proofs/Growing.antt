@@ -7,7 +7,7 @@ use Rattle.std.specs.Prelude.{None, is_some, ℤ}
 use Rattle.std.specs.List.{All, Contains}
 use Rattle.list_laws.proofs.Items.{All-left, All-right}
 use Rattle.packet_writer.specs.Heard.{sample_in}
-use Rattle.input_rule.specs.declared.view.Heard.{Heard}
+use Rattle.input_rule.specs.declared.view.HeardSample.{HeardSample}
 use Rattle.input_rule.specs.declared.view.Look.{Look}
 use Rattle.input_rule.specs.declared.view.View.{View}
 use Rattle.input_rule.specs.Views.{HasMissed, HasSeen, closed_of, listened, looked, saw}
@@ -124,7 +124,7 @@ listened_more p tick place value = record {
 pub hears_still : (p : SeatFace) → HearsAt p p
 hears_still p = (
   [],
-  ap (λ (l : List Heard). record p { view = record p.view { heard = l } })
+  ap (λ (l : List HeardSample). record p { view = record p.view { heard = l } })
       (sym (append-nil p.view.heard)),
 )
 
@@ -133,7 +133,7 @@ hears_then p q r f g = (
   f.0 ++ g.0,
   g.1
       ∙ (ap (λ (z : SeatFace). record z { view = record z.view { heard = z.view.heard ++ g.0 } }) f.1
-      ∙ ap (λ (l : List Heard). record p { view = record p.view { heard = l } })
+      ∙ ap (λ (l : List HeardSample). record p { view = record p.view { heard = l } })
       (append_assoc p.view.heard f.0 g.0)),
 )
 
@@ -224,7 +224,7 @@ looks_before P (p ∷ ps) (q ∷ qs) f h =
     (on_all P p.view.looks q.view.looks f.0.looks (All-left P q.view.looks (looks_of qs) h))
     (looks_before P ps qs f.1 (All-right P q.view.looks (looks_of qs) h))
 
-heard_before : (P : Heard → Type 0) (before after : List SeatFace) → Grows before after
+heard_before : (P : HeardSample → Type 0) (before after : List SeatFace) → Grows before after
     → All P (heard_of after) → All P (heard_of before)
 heard_before P [] [] f h = h
 heard_before P [] (q ∷ qs) f h = absurd f

@@ -8,7 +8,7 @@ use Rattle.map_entry.specs.Row.{channels_of}
 use Rattle.packet_writer.specs.Heard.{TickBlocks, sample_in}
 use Rattle.packet_writer.specs.Packet.{Blocks}
 use Rattle.input_rule.specs.declared.view.Look.{Look}
-use Rattle.input_rule.specs.declared.view.Heard.{Heard}
+use Rattle.input_rule.specs.declared.view.HeardSample.{HeardSample}
 use Rattle.input_rule.specs.declared.view.View.{View}
 use Rattle.input_rule.specs.Views.{HasSeen}
 use Rattle.input_rule.specs.Words.{HasTick, block_len}
@@ -19,7 +19,7 @@ use Rattle.input_cells.specs.Feeding.{block_fed}
 -- a block that the pass saw is there; one that it missed after it had seen a closing number above
 -- the tick is not; the samples that it read are those of the block; and a block that is there has
 -- the shape of its input
-pub record Agrees (d : DeviceParts) (looks : List Look) (heard : List Heard)
+pub record Agrees (d : DeviceParts) (looks : List Look) (heard : List HeardSample)
     (blocks : Blocks) : Type 0 where
   pub seen : All (λ l. l.present ≡ true → is_some (blocks l.input l.tick) ≡ true) looks
   pub missed : All (λ l. l.present ≡ false → l.tick < l.closed → blocks l.input l.tick ≡ None) looks
@@ -30,7 +30,7 @@ pub record Agrees (d : DeviceParts) (looks : List Look) (heard : List Heard)
 
 -- a sample of a tick that was read
 pub record HasHeard (v : View) (tick place : ℕ) (value : ℤ) : Type 0 where
-  pub heard : Heard
+  pub heard : HeardSample
   pub among : Contains v.heard heard
   pub input_is : heard.input ≡ v.shape.input
   pub tick_is : heard.tick ≡ tick

@@ -7,7 +7,7 @@ use Rattle.atomic_table.specs.Seated.{TableId}
 use Rattle.input_rule.specs.declared.view.Shape.{Shape}
 use Rattle.input_rule.specs.declared.view.View.{View}
 use Rattle.input_rule.specs.declared.view.Look.{Look}
-use Rattle.input_rule.specs.declared.view.Heard.{Heard}
+use Rattle.input_rule.specs.declared.view.HeardSample.{HeardSample}
 use Rattle.input_rule.specs.Words.{block_len, first_words, words_len}
 use Rattle.input_rule.specs.Views.{feeder, newcomer}
 
@@ -105,7 +105,7 @@ Grows before after = AllZip GrowsAt before after
 
 -- of one input a pass read samples, and did nothing else
 abbrev pub HearsAt : SeatFace → SeatFace → Type 0
-HearsAt before after = (more : List Heard)
+HearsAt before after = (more : List HeardSample)
     × (after ≡ record before { view = record before.view { heard = before.view.heard ++ more } })
 
 -- a pass read samples, and did nothing else
@@ -118,7 +118,7 @@ looks_of [] = []
 looks_of (p ∷ ps) = p.view.looks ++ looks_of ps
 
 -- all samples that a pass read, input by input
-abbrev pub heard_of : List SeatFace → List Heard
+abbrev pub heard_of : List SeatFace → List HeardSample
 heard_of [] = []
 heard_of (p ∷ ps) = p.view.heard ++ heard_of ps
 

@@ -17,7 +17,7 @@ use std::alloc::Global;
 
 /// The tables of the inputs, and of the pace, with their feeders' passes and a reader's pass.
 #[derive(Drop)]
-pub(crate) struct Laid {
+pub(crate) struct FreshTable {
     pub(crate) inputs: Vec<OneInput>,
     pub(crate) feeders: Vec<Option<FeedPass>>,
     pub(crate) reader: ReadPass,
@@ -84,7 +84,7 @@ fn widest_row(alloc: Global, device: &Device, from: u64, ticks: u64) -> Result<V
     first_row(alloc, from, 1 + (ticks + ticks * block) as usize)
 }
 
-impl Laid {
+impl FreshTable {
     /// Lays out one table more.
     fn push(&mut self, alloc: Global, shape: Shape, row: &[u64]) -> Result<(), NoMemory>
         requires small { IsSmall shape }
@@ -108,7 +108,12 @@ impl Laid {
 }
 
 /// Lays out the tables of the device's inputs, and of the pace.
-pub(crate) fn lay(alloc: Global, device: &Device, from: u64, ticks: u64) -> Result<Laid, NoMemory>
+pub(crate) fn lay(
+    alloc: Global,
+    device: &Device,
+    from: u64,
+    ticks: u64,
+) -> Result<FreshTable, NoMemory>
     requires { ticks ≤ LAP_TICKS }
     ensures shapes { IfOk result (λ l. map (λ t. t.shape) l.inputs.items
         ≡ map (shape_of device.now from ticks) (range_with_len 0 (length device.now.inputs + 1))) }
@@ -117,7 +122,7 @@ pub(crate) fn lay(alloc: Global, device: &Device, from: u64, ticks: u64) -> Resu
     ensures reader { IfOk result (λ l. l.reader ≡ map unread l.inputs.items) }
 {
     let row = widest_row(alloc, device, from, ticks)?;
-    let mut laid = Laid {
+    let mut laid = FreshTable {
         inputs: Vec::new(alloc),
         feeders: Vec::new(alloc),
         reader: ReadPass {

@@ -3,7 +3,7 @@
 ghost use Rattle.std.specs.Prelude.{Option, List, ℤ, pos, length, slice_index_or, ◌≡◌, ◌+◌, ◌*◌};
 ghost use Rattle.std.specs.Prelude.{◌<◌, ◌≤◌, ◌^◌, ◌↔◌, IfOk, IsTrue, ℕ, true, false};
 ghost use Rattle.std.specs.List.{Contains};
-ghost use Rattle.input_rule.specs.declared.view.Heard.{Heard};
+ghost use Rattle.input_rule.specs.declared.view.HeardSample.{HeardSample};
 ghost use Rattle.input_rule.specs.Views.{HasMissed, HasSeen, closed_of, listened, looked, saw};
 ghost use Rattle.input_rule.specs.Words.{HasTick, block_len, block_start, presence};
 ghost use Rattle.packet_writer.specs.Heard.{HasFrames, channel_samples};
@@ -194,7 +194,7 @@ impl InputReader {
         requires seen { HasSeen self.old.view tick }
         ensures heard { self.new
             ≡ record self.old { view = listened self.old.view tick place result } }
-        ensures same { (h : Heard) → Contains self.old.view.heard h → h.tick ≡ tick
+        ensures same { (h : HeardSample) → Contains self.old.view.heard h → h.tick ≡ tick
             → h.place ≡ place → h.value ≡ result }
     {
         let word = table.block_word(tick) + place;

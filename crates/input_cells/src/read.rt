@@ -2,7 +2,7 @@
 
 ghost use Rattle.std.specs.Prelude.{◌≡◌, ◌+◌, ◌*◌, ◌<◌, ◌≤◌, Option, List, ℤ, true, false, length};
 ghost use Rattle.std.specs.List.{Contains};
-ghost use Rattle.input_rule.specs.declared.view.Heard.{Heard};
+ghost use Rattle.input_rule.specs.declared.view.HeardSample.{HeardSample};
 ghost use Rattle.input_rule.specs.Views.{HasMissed, HasSeen, closed_of, listened, looked, saw};
 ghost use Rattle.input_rule.specs.Words.{HasTick};
 ghost use Rattle.packet_writer.specs.Heard.{HasFrames, channel_samples};
@@ -82,7 +82,8 @@ impl ReadPass {
         requires seen { HasView self.old input (λ v. HasSeen v tick) }
         ensures heard { self.new ≡ changed
             (λ v. listened v tick (frame * v.shape.channels + channel) result) input self.old }
-        ensures same { HasView self.old input (λ v. (h : Heard) → Contains v.heard h → h.tick ≡ tick
+        ensures same { HasView self.old input (λ v. (h : HeardSample) → Contains v.heard h
+            → h.tick ≡ tick
             → h.place ≡ frame * v.shape.channels + channel → h.value ≡ result) }
         ensures pass { IsReadOf table.now self.new }
         ensures grows { Grows self.old self.new }

@@ -7,7 +7,7 @@ use mathlib.Core.Logic.{dite}
 use native.Mathlib.Decide.{ℕ_discrete}
 use Rattle.input_rule.specs.declared.view.Shape.{Shape}
 use Rattle.input_rule.specs.declared.view.Look.{Look}
-use Rattle.input_rule.specs.declared.view.Heard.{Heard}
+use Rattle.input_rule.specs.declared.view.HeardSample.{HeardSample}
 use Rattle.input_rule.specs.Words.{AreLater, AreWords, HasTick, IsAbsent, block_len, closing}
 use Rattle.input_rule.specs.Words.{presence, sample_of, sample_word, words_len}
 use Rattle.input_rule.specs.Rule.{IsLook, IsHeard}
@@ -43,7 +43,7 @@ look_stays shape before after f l o = record {
 }
 
 pub heard_stays : (shape : Shape) (before after : List ℕ) → AreLater shape before after
-    → (h : Heard) → IsHeard shape before h
+    → (h : HeardSample) → IsHeard shape before h
     → IsHeard shape after h
 heard_stays shape before after f h o = record {
   input = o.input;

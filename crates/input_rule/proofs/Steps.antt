@@ -16,7 +16,7 @@ use Rattle.atomic_table.proofs.Lists.{at_snoc, set_else}
 use Rattle.input_rule.specs.declared.view.Shape.{Shape}
 use Rattle.input_rule.specs.declared.view.View.{View}
 use Rattle.input_rule.specs.declared.view.Look.{Look}
-use Rattle.input_rule.specs.declared.view.Heard.{Heard}
+use Rattle.input_rule.specs.declared.view.HeardSample.{HeardSample}
 use Rattle.input_rule.specs.Words.{AreWords, HasTick, IsPresent, block_len, closing, first_words}
 use Rattle.input_rule.specs.Words.{presence, sample_at, sample_of, sample_word}
 use Rattle.input_rule.specs.Views.{HasSeen, HasMissed, closed_of, feeder, last_of, listened, looked}
@@ -165,12 +165,12 @@ hears_allowed shape slots id m i tick place live inside below at_word seen s kep
     let small : r < 2 ^ 32 = (let q : ℕ = (t - shape.from) * block_len shape in
     let b = h.shown.spelt (sample_word shape t p) (omega arith) in
     omega arith) in
-    let again : (d : Heard) → Contains m.0.heard d → d.tick ≡ t → d.place ≡ p
+    let again : (d : HeardSample) → Contains m.0.heard d → d.tick ≡ t → d.place ≡ p
     → d.value ≡ sample_of r = λ d among its_tick its_place.
     let o = All-contains (IsHeard shape words) m.0.heard d f.heard among in
     sym o.value ∙ ((λ k. sample_at shape words (its_tick k) (its_place k)) ∙ ap sample_of is) in
     let w : View = listened m.0 t p (sample_of r) in
-    let d : Heard = record { input = z.input; tick = t; place = p; value = sample_of r } in
+    let d : HeardSample = record { input = z.input; tick = t; place = p; value = sample_of r } in
     let fits : Fits shape words keeper id w = record {
       bound = f.bound;
       feeder = f.feeder;

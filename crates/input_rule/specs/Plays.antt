@@ -4,7 +4,7 @@ use Rattle.std.specs.List.{All, Contains}
 use Rattle.atomic_table.specs.Table.{Me, Step}
 use Rattle.input_rule.specs.declared.view.Shape.{Shape}
 use Rattle.input_rule.specs.declared.view.View.{View}
-use Rattle.input_rule.specs.declared.view.Heard.{Heard}
+use Rattle.input_rule.specs.declared.view.HeardSample.{HeardSample}
 use Rattle.input_rule.specs.Words.{block_len, sample_of}
 use Rattle.input_rule.specs.Views.{HasSeen, HasMissed, closed_of, listened, looked, saw, wrote}
 use Rattle.input_rule.specs.Rule.{IsLook, IsHeard}
@@ -52,7 +52,7 @@ hears step m found after =
       m.1,
     ))
     × (found < 2 ^ 32)
-    × ((h : Heard) → Contains m.0.heard h → h.tick ≡ sample_tick m.0.shape step.word
+    × ((h : HeardSample) → Contains m.0.heard h → h.tick ≡ sample_tick m.0.shape step.word
     → h.place ≡ sample_place m.0.shape step.word → h.value ≡ sample_of found)
 
 -- the looks and samples of the feeder's view are true of the words that it knows

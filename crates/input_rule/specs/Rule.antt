@@ -8,7 +8,7 @@ use Rattle.atomic_table.specs.Table.{State}
 use Rattle.input_rule.specs.declared.view.Shape.{Shape}
 use Rattle.input_rule.specs.declared.view.View.{View}
 use Rattle.input_rule.specs.declared.view.Look.{Look}
-use Rattle.input_rule.specs.declared.view.Heard.{Heard}
+use Rattle.input_rule.specs.declared.view.HeardSample.{HeardSample}
 use Rattle.input_rule.specs.Words.{AreWords, HasTick, IsPresent, IsAbsent}
 use Rattle.input_rule.specs.Words.{block_len, closing, sample_at}
 
@@ -22,7 +22,7 @@ pub record IsLook (shape : Shape) (words : List ℕ) (l : Look) : Type 0 where
   pub closed : l.closed ≤ closing words
 
 -- a sample that was read is that of a block that is there
-pub record IsHeard (shape : Shape) (words : List ℕ) (h : Heard) : Type 0 where
+pub record IsHeard (shape : Shape) (words : List ℕ) (h : HeardSample) : Type 0 where
   pub input : h.input ≡ shape.input
   pub inside : HasTick shape h.tick
   pub below : h.place < block_len shape

@@ -2,7 +2,7 @@
 use Rattle.std.specs.Prelude.{ℕ, ◌≡◌, ◌<◌, List, Some, None, ℤ}
 use Rattle.input_rule.specs.declared.view.Shape.{Shape}
 use Rattle.input_rule.specs.declared.view.Look.{Look}
-use Rattle.input_rule.specs.declared.view.Heard.{Heard}
+use Rattle.input_rule.specs.declared.view.HeardSample.{HeardSample}
 use Rattle.input_rule.specs.Words.{AreLater, AreWords, block_at, closing, first_words}
 use Rattle.input_rule.specs.Rule.{IsHeard, IsLook}
 
@@ -18,7 +18,8 @@ KeepsLooks = (shape : Shape) (before after : List ℕ) → AreLater shape before
 
 -- a sample that was heard stands in later words too
 abbrev pub KeepsHeard : Type 0
-KeepsHeard = (shape : Shape) (before after : List ℕ) → AreLater shape before after → (h : Heard)
+KeepsHeard = (shape : Shape) (before after : List ℕ) → AreLater shape before after
+    → (h : HeardSample)
     → IsHeard shape before h → IsHeard shape after h
 
 -- a block that is there stays as it is

@@ -9,4 +9,4 @@ mod view;
 
 pub use law::{Hands, Hears, Law, Learns, Looks, SeesClosing, TakesIn, Writes};
 pub use sample::{sample_of, word_of};
-pub use view::{Heard, Look, Shape, View};
+pub use view::{HeardSample, Look, Shape, View};

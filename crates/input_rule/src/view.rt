@@ -26,7 +26,7 @@ pub struct Look {
 }
 
 /// A sample that was read, by its place in the block.
-pub struct Heard {
+pub struct HeardSample {
     pub input: u8,
     pub tick: u64,
     pub place: u64,
@@ -45,5 +45,5 @@ pub struct View {
     /// read, the oldest first.
     pub closings: LinkedList<u64>,
     pub looks: LinkedList<Look>,
-    pub heard: LinkedList<Heard>,
+    pub heard: LinkedList<HeardSample>,
 }

@@ -1,6 +1,6 @@
 use Rattle.std.proofs.Common.{◌≡◌, ◌+◌, ◌*◌, ◌<◌, ◌∙◌, refl, sym, ap, subst, arith, w32, to_z, of_z}
 use Rattle.std.specs.List.{Contains}
-use Rattle.input_rule.specs.declared.view.Heard.{Heard}
+use Rattle.input_rule.specs.declared.view.HeardSample.{HeardSample}
 use Rattle.input_rule.specs.declared.view.View.{View}
 use Rattle.input_rule.specs.Views.{HasSeen, listened}
 use Rattle.input_rule.specs.Words.{HasTick}
@@ -65,7 +65,7 @@ returns-clause-same c =
     ≡ c.args.frame * c.index_mut-seat.result.now.view.shape.channels + c.args.channel =
     c.place.ensures.place
     ∙ ap (λ (z : InputFace). c.args.frame * z.shape.channels + c.args.channel) (sym fits) in
-    one_has (λ (v : View). (h : Heard) → Contains v.heard h → h.tick ≡ c.args.tick
+    one_has (λ (v : View). (h : HeardSample) → Contains v.heard h → h.tick ≡ c.args.tick
     → h.place ≡ c.args.frame * v.shape.channels + c.args.channel
     → h.value ≡ to_z w32 (of_z w32 c.listen.result)) _ _ c.args.input _ c.self.view_is
     (inside _ _ _ c.requires.pass (let i = c.requires.input in omega arith))
