@@ -24,7 +24,7 @@ use Rattle.interleavings.specs.declared.events.Answer.{Answer}
 use Rattle.interleavings.specs.declared.events.Answer.TheVariants.{Claimed, Over, Seen, Nothing}
 use Rattle.interleavings.specs.declared.events.Answer.TheVariants.{Done, AlreadySet, Closed}
 use Rattle.interleavings.specs.declared.events.Answer.TheVariants.{Replied}
-use Rattle.interleavings.specs.declared.events.Taken.{Taken}
+use Rattle.interleavings.specs.declared.events.AnsweredEvent.{AnsweredEvent}
 use Rattle.interleavings.specs.Events.{IsRun, answer_of, call_in, claims_in, journal_in, taken}
 use Rattle.interleavings.specs.Run.{ask_in, asks_in, replies_given, reply_by, reply_in}
 use Rattle.interleavings.specs.Told.{given_to, requests_of}
@@ -50,14 +50,15 @@ given_by (Close input upto) answer = None
 given_by (Call client request) answer = given_as client request answer
 
 -- the answers of the calls among these, in order
-abbrev pub given_in : List Taken → List Given
+abbrev pub given_in : List AnsweredEvent → List Given
 given_in events = filter_map (λ t. given_by t.event t.answer) events
 
-given_grows : (before : List Taken) (t : Taken)
+given_grows : (before : List AnsweredEvent) (t : AnsweredEvent)
     → given_in (before ++ t ∷ []) ≡ given_in before ++ given_in (t ∷ [])
-given_grows before t = filter_map-append (λ (x : Taken). given_by x.event x.answer) before (t ∷ [])
+given_grows before t = filter_map-append (λ (x : AnsweredEvent). given_by x.event x.answer) before
+    (t ∷ [])
 
-abbrev AreAnswered : SetupParts → List Taken → Type 0
+abbrev AreAnswered : SetupParts → List AnsweredEvent → Type 0
 AreAnswered s events = AreGiven s [] 0 (given_in events) (journal_in s events) (claims_in events)
 
 same_given : (s : SetupParts) (gs hs : List Given) (j k : List JournalCall) (m n : ℕ) → gs ≡ hs
@@ -68,7 +69,7 @@ same_given s gs hs j k m n given journal claims are =
     (subst (λ (x : List Given). AreGiven s [] 0 x j m) given are))
 
 -- an event that is not a call
-quiet : (s : SetupParts) (before : List Taken) (t : Taken) → given_in (t ∷ []) ≡ []
+quiet : (s : SetupParts) (before : List AnsweredEvent) (t : AnsweredEvent) → given_in (t ∷ []) ≡ []
     → call_in s (journal_in s before) t.event t.answer ≡ None → AreAnswered s before
     → AreAnswered s (before ++ t ∷ [])
 quiet s before t none no_call are =
@@ -84,12 +85,13 @@ quiet s before t none no_call are =
     (omega (arith, claims_more before t)))
 
 -- a call
-called : (s : SetupParts) (ticks : ℕ) (before : List Taken) (client : ℕ) (request : Request)
+called : (s : SetupParts) (ticks : ℕ) (before : List AnsweredEvent) (client : ℕ) (request : Request)
     → AreAnswered s before
     → AreAnswered s
     (before ++ taken (Call client request) (answer_of s ticks before (Call client request)) ∷ [])
 called s ticks before client request are =
-    let t : Taken = taken (Call client request) (answer_of s ticks before (Call client request)) in
+    let t : AnsweredEvent = taken (Call client request) (answer_of s ticks before
+    (Call client request)) in
     let journal = journal_in s before in
     let claims = claims_in before in
     let reply = reply_of s journal claims request in
@@ -115,7 +117,7 @@ called s ticks before client request are =
     (omega (arith, claims_more before t))
     (given_more s [] journal after 0 claims (given_in before) g are asked (omega arith))
 
-more_answered : (s : SetupParts) (ticks : ℕ) (before : List Taken) (event : Event)
+more_answered : (s : SetupParts) (ticks : ℕ) (before : List AnsweredEvent) (event : Event)
     → AreAnswered s before
     → AreAnswered s (before ++ taken event (answer_of s ticks before event) ∷ [])
 more_answered s ticks before (Claim worker) are =
@@ -133,7 +135,7 @@ more_answered s ticks before (Call client request) are = called s ticks before c
 
 -- what the calls of a run were answered are a book's answers, which lead to the calls accepted and
 -- the claims made
-pub run_given : (s : SetupParts) (ticks : ℕ) (events : List Taken) → IsRun s ticks events
+pub run_given : (s : SetupParts) (ticks : ℕ) (events : List AnsweredEvent) → IsRun s ticks events
     → AreAnswered s events
 run_given s ticks events run =
     run_by s ticks (AreAnswered s) (refl, omega arith)
@@ -167,7 +169,8 @@ map_cons : {X Y : Type 0} (f : X → Y) (o : Option X) (xs : List X)
 map_cons f None xs = refl
 map_cons f (Some x) xs = refl
 
-pub replies_are : (events : List Taken) → map given_reply (given_in events) ≡ replies_given events
+pub replies_are : (events : List AnsweredEvent)
+    → map given_reply (given_in events) ≡ replies_given events
 replies_are [] = refl
 replies_are (t ∷ events) =
     map_cons given_reply (given_by t.event t.answer) (given_in events)
@@ -175,7 +178,7 @@ replies_are (t ∷ events) =
     (event_reply t.event t.answer)
     ∙ ap (cons_option (reply_in t.event t.answer)) (replies_are events)
 
-abbrev AreAsks : List Taken → Type 0
+abbrev AreAsks : List AnsweredEvent → Type 0
 AreAsks events = (client : ℕ) → requests_of (given_in events) client ≡ asks_in events client
 
 pub requests_append : (xs ys : List Given) (client : ℕ)
@@ -184,16 +187,16 @@ requests_append xs ys client =
     ap (map (λ (g : Given). g.request)) (filter-append (λ (g : Given). eqb g.client client) xs ys)
     ∙ map-append (λ (g : Given). g.request) (given_to client xs) (given_to client ys)
 
-asks_append : (before : List Taken) (t : Taken) → AreAsks before → AreAsks (t ∷ [])
+asks_append : (before : List AnsweredEvent) (t : AnsweredEvent) → AreAsks before → AreAsks (t ∷ [])
     → AreAsks (before ++ t ∷ [])
 asks_append before t so_far here client =
     ap (λ (gs : List Given). requests_of gs client) (given_grows before t)
     ∙ requests_append (given_in before) (given_in (t ∷ [])) client
     ∙ ap (λ (z : List Request). z ++ requests_of (given_in (t ∷ [])) client) (so_far client)
     ∙ ap (λ (z : List Request). asks_in before client ++ z) (here client)
-    ∙ sym (filter_map-append (λ (x : Taken). ask_in client x.event) before (t ∷ []))
+    ∙ sym (filter_map-append (λ (x : AnsweredEvent). ask_in client x.event) before (t ∷ []))
 
-asks_here : (s : SetupParts) (ticks : ℕ) (before : List Taken) (event : Event)
+asks_here : (s : SetupParts) (ticks : ℕ) (before : List AnsweredEvent) (event : Event)
     → AreAsks (taken event (answer_of s ticks before event) ∷ [])
 asks_here s ticks before (Claim worker) client = refl
 asks_here s ticks before (Look worker input) client = refl
@@ -204,7 +207,7 @@ asks_here s ticks before (Call of request) client = elim (cases_Bool (eqb of cli
   | inr other ↦ rw other refl
 ]
 
-pub asks_are : (s : SetupParts) (ticks : ℕ) (events : List Taken) → IsRun s ticks events
+pub asks_are : (s : SetupParts) (ticks : ℕ) (events : List AnsweredEvent) → IsRun s ticks events
     → AreAsks events
 asks_are s ticks events run =
     run_by s ticks AreAsks (λ client. refl)

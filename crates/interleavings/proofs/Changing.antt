@@ -1,4 +1,5 @@
 -- What is kept, after a claim, a look that sees, and a call.
+use Rattle.interleavings.proofs.Shapes.{HasShape}
 use Rattle.std.proofs.Common.{◌≡◌, ℕ, ◌+◌, ◌<◌, Bool, true, false, eqb, List, [], ◌∷◌, ◌++◌, length}
 use Rattle.std.proofs.Common.{get_or, map, set, Option, zero-add, Some, None, refl, sym, ap, subst}
 use Rattle.std.proofs.Common.{◌∙◌, zero-add}
@@ -17,11 +18,10 @@ use Rattle.plain_book.specs.Desk.{DeskParts, desk_parts}
 use Rattle.book_words.specs.History.{history_of, put}
 use Rattle.plain_book.specs.Journal.{entries_of}
 use Rattle.plain_book.specs.Time.{tick_of_claim}
-use Rattle.plain_book.proofs.Waiting.{HasOutputs}
 use Rattle.interleavings.specs.declared.events.Answer.{Answer}
 use Rattle.interleavings.specs.declared.events.Answer.TheVariants.{Claimed, Seen}
 use Rattle.interleavings.specs.declared.events.Event.TheVariants.{Claim, Look, Call}
-use Rattle.interleavings.specs.declared.events.Taken.{Taken}
+use Rattle.interleavings.specs.declared.events.AnsweredEvent.{AnsweredEvent}
 use Rattle.interleavings.specs.declared.facts.Facts.{Facts}
 use Rattle.interleavings.specs.declared.facts.Sight.{Sight}
 use Rattle.interleavings.specs.Core.{IsReady, desk_after, inherited, plain_item, sees, set_at}
@@ -49,7 +49,8 @@ shown s journal blocks seen k =
     claim_with s journal blocks k (seen_flags s journal (flag_of seen) k)
 
 -- it is the claim of these events, where that is what they tell
-shown_is : (s : SetupParts) (journal : List JournalCall) (after : List Taken) (blocks : Blocks)
+shown_is : (s : SetupParts) (journal : List JournalCall) (after : List AnsweredEvent)
+    (blocks : Blocks)
     (seen : List Bool) (worker k : ℕ)
     → journal ≡ journal_in s after
     → ((input tick : ℕ) → blocks input tick ≡ block_in after input tick)
@@ -61,7 +62,7 @@ shown_is s journal after blocks seen worker k same there are latest own =
     let n = length s.device.inputs in
     claim_same s journal (journal_in s after) blocks (block_in after) (flag_of seen)
     (has_seen s after k) k
-    (ap (λ (j : List JournalCall). claim_rows s (entries_of s j) k) same)
+    (λ f lt. ap (λ (j : List JournalCall). claim_rows s (entries_of s j) k f) same)
     (λ input lt. ap (λ (z : List Bool). get_or z input false) are
     ∙ get_or-map-range_with_len (sees s after worker) 0 n input input false lt (zero-add input)
     ∙ ap (λ (l : Option ℕ). option_map_or (λ j. seen_from s worker j input None after) l false)
@@ -69,10 +70,10 @@ shown_is s journal after blocks seen worker k same there are latest own =
     ∙ sym (ap (λ (w : ℕ). seen_from s w k input None after) own))
     (λ input set. there input (tick_of_claim s k))
 
-pub claim_ready : (s : SetupParts) (ticks workers : ℕ) (before : List Taken) (worker : ℕ)
+pub claim_ready : (s : SetupParts) (ticks workers : ℕ) (before : List AnsweredEvent) (worker : ℕ)
     (sight : Sight) (item : ClaimItem) (seen : List Bool)
     (old new : Facts)
-    → HasOutputs s → IsRun s ticks before
+    → HasShape s → IsRun s ticks before
     → answer_of s ticks before (Claim worker) ≡ Claimed (claims_in before) → worker < workers
     → sight ≡ sight_in s before worker
     → seen ≡ inherited s sight.latest sight.seen (claims_in before)
@@ -88,7 +89,7 @@ claim_ready s ticks workers before worker sight item seen old new some run is lt
     let k = claims_in before in
     let are = are_drawn s ticks before run in
     let t = claimed before worker in
-    let after : List Taken = before ++ t ∷ [] in
+    let after : List AnsweredEvent = before ++ t ∷ [] in
     let eq : taken_by s ticks before (Claim worker) ≡ t =
     ap (λ (a : Answer). taken (Claim worker) a) is in
     let journal : journal_in s after ≡ journal_in s before = journal_stays s before t refl in
@@ -96,7 +97,7 @@ claim_ready s ticks workers before worker sight item seen old new some run is lt
     let replies : replies_in after ≡ replies_in before = replies_stay before t refl in
     let seen_is : seen ≡ map (sees s after worker) (range_with_len 0 (length s.device.inputs)) =
     inherit ∙ ap (λ (x : Sight). inherited s x.latest x.seen k) its
-    ∙ claim_sees s ticks before worker some run in
+    ∙ claim_sees s ticks before worker some.0 run in
     let there = blocks_stay before t (set_at old.blocks.items) (λ input tick. refl) ready.blocks in
     let item_is : item ≡ claim_in s (journal_in s after) after k =
     shows ∙ shown_is s (journal_in s before) after (set_at old.blocks.items) seen worker k
@@ -106,7 +107,8 @@ claim_ready s ticks workers before worker sight item seen old new some run is lt
     let g = claim_in s (journal_in s before) before in
     let old_claims : claims_of s before ≡ map f (range_with_len 0 k) =
     map_same_below g f k (λ i within.
-    subst (λ (x : Taken). g i ≡ claim_in s (journal_in s (before ++ x ∷ [])) (before ++ x ∷ []) i)
+    subst (λ (x : AnsweredEvent). g i
+    ≡ claim_in s (journal_in s (before ++ x ∷ [])) (before ++ x ∷ []) i)
     eq
     (claim_stays s ticks before (Claim worker) i some run within (λ input. refl))) in
     let all : claims_of s before ++ item ∷ [] ≡ claims_of s after =
@@ -116,7 +118,7 @@ claim_ready s ticks workers before worker sight item seen old new some run is lt
     let was : old.history
     ≡ history_of (claims_of s before) (journal_in s before) (replies_in before) =
     ready.history ∙ history_is s before in
-    subst (λ (x : Taken). IsReady s workers (before ++ x ∷ []) new) (sym eq) (record {
+    subst (λ (x : AnsweredEvent). IsReady s workers (before ++ x ∷ []) new) (sym eq) (record {
       desk = desk ∙ sym (both (desk_parts s) claims journal);
       sights = sights ∙ ap (λ (z : List Sight). set z worker (the_sight (Some k) seen)) ready.sights
           ∙ set_range (sight_in s before) (sight_in s after) workers worker
@@ -133,10 +135,11 @@ claim_ready s ticks workers before worker sight item seen old new some run is lt
           ∙ sym (history_is s after ∙ same_history (sym all) journal replies);
     })
 
-pub look_ready : (s : SetupParts) (ticks workers : ℕ) (before : List Taken) (worker at k : ℕ)
+pub look_ready : (s : SetupParts) (ticks workers : ℕ) (before : List AnsweredEvent)
+    (worker at k : ℕ)
     (sight : Sight) (item : ClaimItem) (seen : List Bool)
     (old new : Facts)
-    → HasOutputs s → IsRun s ticks before → answer_of s ticks before (Look worker at) ≡ Seen true
+    → HasShape s → IsRun s ticks before → answer_of s ticks before (Look worker at) ≡ Seen true
     → worker < workers
     → at < length s.device.inputs
     → sight ≡ sight_in s before worker → sight.latest ≡ Some k → seen ≡ set sight.seen at true
@@ -151,8 +154,8 @@ look_ready s ticks workers before worker at k sight item seen old new some run i
     sees_it shows desk sights blocks closings history
     ready =
     let are = are_drawn s ticks before run in
-    let t : Taken = taken (Look worker at) (Seen true) in
-    let after : List Taken = before ++ t ∷ [] in
+    let t : AnsweredEvent = taken (Look worker at) (Seen true) in
+    let after : List AnsweredEvent = before ++ t ∷ [] in
     let eq : taken_by s ticks before (Look worker at) ≡ t =
     ap (λ (a : Answer). taken (Look worker at) a) is in
     let latest : latest_of worker before ≡ Some k = sym (ap (λ (x : Sight). x.latest) its) ∙ late in
@@ -177,14 +180,15 @@ look_ready s ticks workers before worker at k sight item seen old new some run i
     let elsewhere =
     λ (input : ℕ). look_elsewhere s before worker at i k input
     (answer_of s ticks before (Look worker at)) are latest below other in
-    subst (λ (x : Taken). g i ≡ claim_in s (journal_in s (before ++ x ∷ [])) (before ++ x ∷ []) i)
+    subst (λ (x : AnsweredEvent). g i
+    ≡ claim_in s (journal_in s (before ++ x ∷ [])) (before ++ x ∷ []) i)
     eq
     (claim_stays s ticks before (Look worker at) i some run below elsewhere))
     ∙ sym (ap (λ (n : ℕ). map f (range_with_len 0 n)) claims) in
     let was : old.history
     ≡ history_of (claims_of s before) (journal_in s before) (replies_in before) =
     ready.history ∙ history_is s before in
-    subst (λ (x : Taken). IsReady s workers (before ++ x ∷ []) new) (sym eq) (record {
+    subst (λ (x : AnsweredEvent). IsReady s workers (before ++ x ∷ []) new) (sym eq) (record {
       desk = desk ∙ ready.desk ∙ sym (both (desk_parts s) claims journal);
       sights = sights ∙ ap (λ (z : List Sight). set z worker (the_sight (Some k) seen)) ready.sights
           ∙ set_range (sight_in s before) (sight_in s after) workers worker
@@ -203,9 +207,9 @@ look_ready s ticks workers before worker at k sight item seen old new some run i
 
 -- ---- a call
 
-pub call_ready : (s : SetupParts) (ticks workers : ℕ) (before : List Taken) (client : ℕ)
+pub call_ready : (s : SetupParts) (ticks workers : ℕ) (before : List AnsweredEvent) (client : ℕ)
     (request : Request) (old new : Facts)
-    → HasOutputs s → IsRun s ticks before → new.desk ≡ desk_after old.desk client request
+    → HasShape s → IsRun s ticks before → new.desk ≡ desk_after old.desk client request
     → new.sights ≡ old.sights
     → new.blocks ≡ old.blocks → new.closings ≡ old.closings
     → new.history ≡ history_of old.history.claims (desk_after old.desk client request).journal
@@ -215,7 +219,7 @@ pub call_ready : (s : SetupParts) (ticks workers : ℕ) (before : List Taken) (c
 call_ready s ticks workers before client request old new some run desk sights blocks
     closings history ready =
     let t = taken_by s ticks before (Call client request) in
-    let after : List Taken = before ++ t ∷ [] in
+    let after : List AnsweredEvent = before ++ t ∷ [] in
     let book : DeskParts = desk_parts s (claims_in before) (journal_in s before) in
     let journal : journal_in s after ≡ (desk_after book client request).journal =
     journal_more s before t in

@@ -15,7 +15,7 @@ use Rattle.interleavings.specs.declared.events.Event.TheVariants.{Claim, Look, S
 use Rattle.interleavings.specs.declared.events.Answer.{Answer}
 use Rattle.interleavings.specs.declared.events.Answer.TheVariants.{AlreadySet, Claimed, Closed}
 use Rattle.interleavings.specs.declared.events.Answer.TheVariants.{Done, Over}
-use Rattle.interleavings.specs.declared.events.Taken.{Taken}
+use Rattle.interleavings.specs.declared.events.AnsweredEvent.{AnsweredEvent}
 use Rattle.interleavings.specs.Events.{IsRun, answer_of, block_in, claims_in, drawn, drawn_by}
 use Rattle.interleavings.specs.Events.{is_claim_of, is_closed, latest_of, look_answer, taken}
 use Rattle.interleavings.specs.Run.{drawers, draws, worker_of}
@@ -24,37 +24,38 @@ use Rattle.interleavings.proofs.Runs.{run_by, claims_more}
 pub some_same : {X : Type 0} {x y : X} → Some x ≡ Some y → x ≡ y
 some_same e = cc
 
-pub latest_more : (worker : ℕ) (before : List Taken) (t : Taken)
+pub latest_more : (worker : ℕ) (before : List AnsweredEvent) (t : AnsweredEvent)
     → latest_of worker (before ++ t ∷ []) ≡ option_or (drawn_by worker t) (latest_of worker before)
 latest_more worker [] t = sym (option_or-None (drawn_by worker t))
 latest_more worker (b ∷ before) t =
     ap (λ (o : Option ℕ). option_or o (drawn_by worker b)) (latest_more worker before t)
     ∙ option_or-assoc (drawn_by worker t) (latest_of worker before) (drawn_by worker b)
 
-pub drawers_more : (before : List Taken) (t : Taken)
+pub drawers_more : (before : List AnsweredEvent) (t : AnsweredEvent)
     → drawers (before ++ t ∷ []) ≡ drawers before ++ drawers (t ∷ [])
 drawers_more before t = filter_map-append draws before (t ∷ [])
 
 -- an answer that draws no number
-drawn_by_none : (worker : ℕ) (t : Taken) → drawn t.answer ≡ None → drawn_by worker t ≡ None
+drawn_by_none : (worker : ℕ) (t : AnsweredEvent) → drawn t.answer ≡ None → drawn_by worker t ≡ None
 drawn_by_none worker t none = elim (cases_Bool (is_claim_of worker t.event)) [
   | inl own ↦ rw own none
   | inr other ↦ rw other refl
 ]
 
-pub latest_kept : (worker : ℕ) (before : List Taken) (t : Taken) → drawn t.answer ≡ None
+pub latest_kept : (worker : ℕ) (before : List AnsweredEvent) (t : AnsweredEvent)
+    → drawn t.answer ≡ None
     → latest_of worker (before ++ t ∷ []) ≡ latest_of worker before
 latest_kept worker before t none =
     latest_more worker before t
     ∙ ap (λ (o : Option ℕ). option_or o (latest_of worker before)) (drawn_by_none worker t none)
 
-pub claims_kept : (before : List Taken) (t : Taken) → drawn t.answer ≡ None
+pub claims_kept : (before : List AnsweredEvent) (t : AnsweredEvent) → drawn t.answer ≡ None
     → claims_in (before ++ t ∷ []) ≡ claims_in before
 claims_kept before t none =
     let zero_more : cond {A = ℕ} (is_some (drawn t.answer)) 1 0 ≡ 0 = rw none refl in
     omega (arith, claims_more before t, zero_more)
 
-drawers_kept : (before : List Taken) (t : Taken) → drawn t.answer ≡ None
+drawers_kept : (before : List AnsweredEvent) (t : AnsweredEvent) → drawn t.answer ≡ None
     → drawers (before ++ t ∷ []) ≡ drawers before
 drawers_kept before t none =
     let nothing : drawers (t ∷ []) ≡ [] = rw none refl in
@@ -62,14 +63,15 @@ drawers_kept before t none =
     ∙ append-nil (drawers before)
 
 -- each worker's latest claim is one that it drew, and a claim is at most its worker's latest
-pub record AreDrawn (events : List Taken) : Type 0 where
+pub record AreDrawn (events : List AnsweredEvent) : Type 0 where
   pub long : length (drawers events) ≡ claims_in events
   pub own : (worker k : ℕ) → latest_of worker events ≡ Some k
       → (k < claims_in events) × (worker_of events k ≡ worker)
   pub upto : (k : ℕ) → k < claims_in events
       → IsSomeAnd (latest_of (worker_of events k) events) (λ j. k ≤ j)
 
-undrawn : (before : List Taken) (t : Taken) → drawn t.answer ≡ None → AreDrawn before
+undrawn : (before : List AnsweredEvent) (t : AnsweredEvent) → drawn t.answer ≡ None
+    → AreDrawn before
     → AreDrawn (before ++ t ∷ [])
 undrawn before t none are =
     let d = drawers_kept before t none in
@@ -85,45 +87,46 @@ undrawn before t none are =
           (are.upto k (omega (arith, lt, c)));
     }
 
-abbrev pub claimed : List Taken → ℕ → Taken
+abbrev pub claimed : List AnsweredEvent → ℕ → AnsweredEvent
 claimed before worker = taken (Claim worker) (Claimed (claims_in before))
 
-pub claims_one : (before : List Taken) (worker : ℕ)
+pub claims_one : (before : List AnsweredEvent) (worker : ℕ)
     → claims_in (before ++ claimed before worker ∷ []) ≡ claims_in before + 1
 claims_one before worker = claims_more before (claimed before worker)
 
-pub worker_old : (before : List Taken) (t : Taken) (k : ℕ) → AreDrawn before → k < claims_in before
+pub worker_old : (before : List AnsweredEvent) (t : AnsweredEvent) (k : ℕ) → AreDrawn before
+    → k < claims_in before
     → worker_of (before ++ t ∷ []) k ≡ worker_of before k
 worker_old before t k are lt =
     ap (λ (z : List ℕ). get_or z k 0) (drawers_more before t)
     ∙ get_or_append_left (drawers before) (drawers (t ∷ [])) 0 k
     (omega (arith, lt, are.long))
 
-pub worker_new : (before : List Taken) (worker : ℕ) → AreDrawn before
+pub worker_new : (before : List AnsweredEvent) (worker : ℕ) → AreDrawn before
     → worker_of (before ++ claimed before worker ∷ []) (claims_in before) ≡ worker
 worker_new before worker are =
     ap (λ (z : List ℕ). get_or z (claims_in before) 0) (drawers_more before (claimed before worker))
     ∙ ap (λ (k : ℕ). get_or (drawers before ++ worker ∷ []) k 0) (sym are.long)
     ∙ get_or-append_seam (drawers before) worker [] 0
 
-pub latest_new : (before : List Taken) (worker : ℕ)
+pub latest_new : (before : List AnsweredEvent) (worker : ℕ)
     → latest_of worker (before ++ claimed before worker ∷ []) ≡ Some (claims_in before)
 latest_new before worker =
     let same : eqb worker worker ≡ true = eq-eqb worker worker refl in
     latest_more worker before (claimed before worker) ∙ rw same refl
 
-pub latest_other : (before : List Taken) (worker other : ℕ) → (other ≡ worker → ⊥)
+pub latest_other : (before : List AnsweredEvent) (worker other : ℕ) → (other ≡ worker → ⊥)
     → latest_of other (before ++ claimed before worker ∷ []) ≡ latest_of other before
 latest_other before worker other apart =
     let no : eqb worker other ≡ false = ne_eqb worker other (λ e. apart (sym e)) in
     latest_more other before (claimed before worker) ∙ rw no refl
 
-drawn_more : (before : List Taken) (worker : ℕ) → AreDrawn before
+drawn_more : (before : List AnsweredEvent) (worker : ℕ) → AreDrawn before
     → AreDrawn (before ++ claimed before worker ∷ [])
 drawn_more before worker are =
     let t = claimed before worker in
     let n = claims_in before in
-    let after : List Taken = before ++ t ∷ [] in
+    let after : List AnsweredEvent = before ++ t ∷ [] in
     let one = claims_one before worker in
     record {
       long = ap length (drawers_more before t) ∙ length-append (drawers before) (worker ∷ [])
@@ -167,13 +170,13 @@ drawn_more before worker are =
       ];
     }
 
-claim_drawn : (before : List Taken) (worker : ℕ) (b : Bool) → AreDrawn before
+claim_drawn : (before : List AnsweredEvent) (worker : ℕ) (b : Bool) → AreDrawn before
     → AreDrawn (before ++ taken (Claim worker)
     (if b then Claimed (claims_in before) else Over) ∷ [])
 claim_drawn before worker true are = drawn_more before worker are
 claim_drawn before worker false are = undrawn before (taken (Claim worker) Over) refl are
 
-pub look_undrawn : (s : SetupParts) (before : List Taken) (input : ℕ) (o : Option ℕ)
+pub look_undrawn : (s : SetupParts) (before : List AnsweredEvent) (input : ℕ) (o : Option ℕ)
     → drawn (look_answer s before input o) ≡ None
 look_undrawn s before input None = refl
 look_undrawn s before input (Some k) = refl
@@ -184,7 +187,8 @@ set_undrawn true b = refl
 set_undrawn false true = refl
 set_undrawn false false = refl
 
-more_drawn : (s : SetupParts) (ticks : ℕ) (before : List Taken) (event : Event) → AreDrawn before
+more_drawn : (s : SetupParts) (ticks : ℕ) (before : List AnsweredEvent) (event : Event)
+    → AreDrawn before
     → AreDrawn (before ++ taken event (answer_of s ticks before event) ∷ [])
 more_drawn s ticks before (Claim worker) are =
     claim_drawn before worker (ltb (claims_in before) (ticks * length s.device.outputs)) are
@@ -209,7 +213,7 @@ none_drawn =
       upto = λ k lt. absurd (omega (arith, lt));
     }
 
-pub are_drawn : (s : SetupParts) (ticks : ℕ) (events : List Taken) → IsRun s ticks events
+pub are_drawn : (s : SetupParts) (ticks : ℕ) (events : List AnsweredEvent) → IsRun s ticks events
     → AreDrawn events
 are_drawn s ticks events run =
     run_by s ticks AreDrawn none_drawn

@@ -1,6 +1,7 @@
 pub mod Runs
 pub mod Places
 pub mod Telling
+pub mod Once
 pub mod Answering
 pub mod Sights
 pub mod Whole
@@ -11,17 +12,9 @@ pub mod Sighting
 pub mod Readiness
 pub mod Changing
 pub mod Stepping
+pub mod Shapes
 pub mod Shown
 pub mod Setting
 pub mod Tabling
 pub mod Keeping
 pub mod Putting
-pub mod Serially
-pub mod Numbered
-pub mod FoundRows
-pub mod Tabled
-pub mod Gathered
-pub mod Lapped
-pub mod Sessions
-pub mod Joined
-pub mod Idle

@@ -2,11 +2,11 @@
 use Rattle.std.proofs.Common.{◌≡◌, ℕ, ◌+◌, ◌<◌, ◌≤◌, Bool, true, false, eqb, List, [], ◌∷◌, ◌++◌}
 use Rattle.std.proofs.Common.{length, take, drop, Option, Some, None, inl, inr, refl, sym, ap}
 use Rattle.std.proofs.Common.{subst, ◌∙◌, arith, length-append, append_assoc, eq-eqb}
-use Rattle.std.specs.Prelude.{All, IfSome, ◌&&◌, cond, is_some, option_map, slice_get}
+use Rattle.std.specs.Prelude.{All, IfSome, ◌&&◌, ◌||◌, cond, is_some, option_map, slice_get}
 use Rattle.std.specs.List.{AllByRecursion}
 use Rattle.std.specs.Option.{option_map_or, option_to_list}
 use Rattle.std.proofs.Math.Seq.{take-append_seam, drop-append_seam}
-use Rattle.std.proofs.lemmas.Bool.{cases_Bool, cases_lt, eqb-true, ne_eqb, false≢true, and_right}
+use Rattle.std.proofs.lemmas.Bool.{cases_Bool, cases_lt, false≢true, or_right}
 use Rattle.std.proofs.lemmas.List.{append-nil}
 use Rattle.std.proofs.lemmas.List.Elements.{All-append, All-cons, All-nil}
 use Rattle.std.proofs.lemmas.Option.{slice_get_within}
@@ -23,7 +23,8 @@ use Rattle.book_words.specs.declared.requests.Request.TheVariants.{Pending}
 use Rattle.book_words.specs.declared.requests.Stamp.{Stamp}
 use Rattle.book_words.specs.declared.requests.When.{When}
 use Rattle.book_words.specs.declared.requests.When.TheVariants.{Now, At, After}
-use Rattle.plain_book.specs.Book.{call_of, deletion, landing_tick, refusal_of, reply_of}
+use Rattle.plain_book.specs.Book.{call_of, deletion, landing_offset, landing_tick, refusal_of}
+use Rattle.plain_book.specs.Book.{reply_of}
 use Rattle.plain_book.specs.Given.{AreGiven, IsGiven, journal_after}
 use Rattle.plain_book.specs.Legal.{IsLegalJournal}
 use Rattle.plain_book.specs.Pending.{next_id, pending_call}
@@ -36,21 +37,21 @@ use Rattle.interleavings.specs.Told.{given_to}
 -- ---- a reply that accepts is one that makes a call
 
 by_when : (s : SetupParts) (journal : List JournalCall) (client claims : ℕ) (request : Request)
-    (when : When) (id tick : ℕ)
-    → is_some (call_of s journal client claims request (accepted when id tick))
-    ≡ accepts (accepted when id tick)
-by_when s journal client claims request Now id tick = refl
-by_when s journal client claims request (At x) id tick = refl
-by_when s journal client claims request (After x) id tick = refl
+    (when : When) (id tick offset : ℕ)
+    → is_some (call_of s journal client claims request (accepted when id tick offset))
+    ≡ accepts (accepted when id tick offset)
+by_when s journal client claims request Now id tick offset = refl
+by_when s journal client claims request (At x) id tick offset = refl
+by_when s journal client claims request (After x) id tick offset = refl
 
 by_refusal : (s : SetupParts) (journal : List JournalCall) (client claims : ℕ) (request : Request)
-    (when : When) (id tick : ℕ) (r : Option Refusal)
+    (when : When) (id tick offset : ℕ) (r : Option Refusal)
     → is_some (call_of s journal client claims request
-    (option_map_or Refused r (accepted when id tick)))
-    ≡ accepts (option_map_or Refused r (accepted when id tick))
-by_refusal s journal client claims request when id tick None =
-    by_when s journal client claims request when id tick
-by_refusal s journal client claims request when id tick (Some r) = refl
+    (option_map_or Refused r (accepted when id tick offset)))
+    ≡ accepts (option_map_or Refused r (accepted when id tick offset))
+by_refusal s journal client claims request when id tick offset None =
+    by_when s journal client claims request when id tick offset
+by_refusal s journal client claims request when id tick offset (Some r) = refl
 
 by_found : (s : SetupParts) (journal : List JournalCall) (client claims id : ℕ) (request : Request)
     (o : Option JournalCall) → pending_call s journal claims id ≡ o
@@ -68,7 +69,8 @@ pub makes_call : (s : SetupParts) (journal : List JournalCall) (client claims : 
 unfolding reply_of
 makes_call s journal client claims (Activate when action) =
     by_refusal s journal client claims (Activate when action) when (next_id journal)
-    (landing_tick s claims when) (refusal_of s journal claims when action)
+    (landing_tick s claims when) (landing_offset s claims when)
+    (refusal_of s journal claims when action)
 makes_call s journal client claims (Delete id) =
     by_found s journal client claims id (Delete id) (pending_call s journal claims id) refl
 makes_call s journal client claims Active = refl
@@ -197,7 +199,7 @@ GoFrom floor [] = Unit {0}
 GoFrom floor (g ∷ gs) = ((floor.calls ≤ g.stamp.calls) × (floor.claims ≤ g.stamp.claims))
     × GoFrom (next_floor g.stamp (accepts g.reply)) gs
 
-floor_calls : (place : Stamp) (b : Bool) → (next_floor place b).calls ≡ place.calls + cond b 1 0
+pub floor_calls : (place : Stamp) (b : Bool) → (next_floor place b).calls ≡ place.calls + cond b 1 0
 floor_calls place true = refl
 floor_calls place false = omega arith
 
@@ -237,58 +239,42 @@ go_from s before low (g ∷ gs) after high is client floor calls claims =
           floor (omega (arith, calls, long)) (omega (arith, claims, is.0.claims)))
     ]
 
--- ---- the answers that made the call of a number
+-- ---- the answer that made the call of a number
 
 abbrev pub is_maker : ℕ → Given → Bool
 is_maker number g = eqb g.stamp.calls number && accepts g.reply
 
-abbrev pub makers : ℕ → List Given → ℕ
-makers number [] = 0
-makers number (g ∷ gs) = cond (is_maker number g) 1 0 + makers number gs
+abbrev pub has_maker : ℕ → List Given → Bool
+has_maker number [] = false
+has_maker number (g ∷ gs) = is_maker number g || has_maker number gs
 
-makers_cons : (number client : ℕ) (g : Given) (gs : List Given)
-    → makers number (given_to client (g ∷ gs))
-    ≡ cond (eqb g.client client && is_maker number g) 1 0 + makers number (given_to client gs)
-makers_cons number client g gs = elim (cases_Bool (eqb g.client client)) [
-  | inl own ↦ rw own refl
-  | inr other ↦ rw other (omega arith)
+-- a maker among later answers is one among all
+kept_maker : (number client : ℕ) (g : Given) (gs : List Given)
+    → has_maker number (given_to client gs) ≡ true
+    → has_maker number (given_to client (g ∷ gs)) ≡ true
+kept_maker number client g gs has = elim (cases_Bool (eqb g.client client)) [
+  | inl own ↦ rw own (or_right (is_maker number g) (has_maker number (given_to client gs)) has)
+  | inr other ↦ rw other has
 ]
 
-both_miss : (a b : Bool) → b ≡ false → cond {A = ℕ} (a && b) 1 0 ≡ 0
-both_miss true b e = rw e refl
-both_miss false b e = refl
+-- an answer that adds a call accepted it
+accepts_more : (n : ℕ) (b : Bool) → n < n + cond b 1 0 → b ≡ true
+accepts_more n true lt = refl
+accepts_more n false lt = absurd (omega (arith, lt))
 
-makers_skip : (number client : ℕ) (g : Given) (gs : List Given) → is_maker number g ≡ false
-    → makers number (given_to client (g ∷ gs)) ≡ makers number (given_to client gs)
-makers_skip number client g gs miss =
-    omega (
-      arith,
-      makers_cons number client g gs,
-      both_miss (eqb g.client client) (is_maker number g) miss,
-    )
+few_more : (b : Bool) → cond {A = ℕ} b 1 0 ≤ 1
+few_more true = omega arith
+few_more false = omega arith
 
-first_miss : (a b : Bool) → a ≡ false → (a && b) ≡ false
-first_miss a b e = rw e refl
-
-no_makers : (s : SetupParts) (before : List JournalCall) (low : ℕ) (given : List Given)
-    (after : List JournalCall) (high : ℕ) → AreGiven s before low given after high
-    → (number client : ℕ) → number < length before → makers number (given_to client given) ≡ 0
-no_makers s before low [] after high is number client lt = refl
-no_makers s before low (g ∷ gs) after high is number client lt =
-    let miss : is_maker number g ≡ false =
-    first_miss (eqb g.stamp.calls number) (accepts g.reply)
-    (ne_eqb g.stamp.calls number (λ e. omega (arith, e, is.0.calls, lt))) in
-    makers_skip number client g gs miss
-    ∙ no_makers s (journal_after s before g) g.stamp.claims gs after high is.1 number client
-    (omega (arith, lt, after_length s before low g is.0))
-
--- where an answer made the call of the number, no later one did
+-- an answer that made the call of a number is one to its client
 made_here : (s : SetupParts) (before : List JournalCall) (low : ℕ) (g : Given) (gs : List Given)
     (after : List JournalCall) (high : ℕ) → AreGiven s before low (g ∷ gs) after high
-    → (number client : ℕ) (call made : JournalCall) → number ≡ length before
-    → slice_get after number ≡ Some call → call_given s before g ≡ Some made
-    → makers number (given_to client (g ∷ gs)) ≡ cond (eqb client call.client) 1 0
-made_here s before low g gs after high is number client call made here at e =
+    → (number : ℕ) (call : JournalCall) (o : Option JournalCall) → call_given s before g ≡ o
+    → accepts g.reply ≡ true → number ≡ length before → slice_get after number ≡ Some call
+    → has_maker number (given_to call.client (g ∷ gs)) ≡ true
+made_here s before low g gs after high is number call None e hit here at =
+    absurd (false≢true (sym (ap is_some e) ∙ given_accepts s before low g is.0 ∙ hit))
+made_here s before low g gs after high is number call (Some made) e hit here at =
     let rest = goes_on s (journal_after s before g) g.stamp.claims gs after high is.1 in
     let whole : after ≡ before ++ made ∷ rest.0 =
     rest.1 ∙ append_assoc before (option_to_list (call_given s before g)) rest.0
@@ -298,79 +284,32 @@ made_here s before low g gs after high is number client call made here at e =
     ∙ sym (ap (λ (j : List JournalCall). slice_get j (length before)) whole)
     ∙ sym (ap (slice_get after) here) ∙ at in
     let same : made ≡ call = cc in
-    let by : call.client ≡ g.client =
-    sym (ap (λ (c : JournalCall). c.client) same)
-    ∙ (call_parts s before g.client g.stamp.claims g.request g.reply made e).by in
-    let some : accepts g.reply ≡ true = sym (given_accepts s before low g is.0) ∙ ap is_some e in
-    let hit : is_maker number g ≡ true =
-    rw (eq-eqb g.stamp.calls number (omega (arith, is.0.calls, here)), some) refl in
-    let none = no_makers s (journal_after s before g) g.stamp.claims gs after high is.1 number
-    client (omega
-    (arith, here, after_length s before low g is.0, ap (λ (b : Bool). cond {A = ℕ} b 1 0) some)) in
-    elim (cases_Bool (eqb g.client client)) [
-      | inl own ↦
-          let its : eqb client call.client ≡ true =
-          eq-eqb client call.client (sym (eqb-true g.client client own) ∙ sym by) in
-          let one : cond {A = ℕ} (eqb g.client client && is_maker number g) 1 0 ≡ 1 =
-          rw (own, hit) refl in
-          let right : cond {A = ℕ} (eqb client call.client) 1 0 ≡ 1 = rw its refl in
-          omega (arith, makers_cons number client g gs, one, none, right)
-      | inr other ↦
-          let off : eqb client call.client ≡ false =
-          ne_eqb client call.client
-          (λ x. false≢true (sym other ∙ eq-eqb g.client client (sym by ∙ sym x))) in
-          let zero_one : cond {A = ℕ} (eqb g.client client && is_maker number g) 1 0 ≡ 0 =
-          rw other refl in
-          let right : cond {A = ℕ} (eqb client call.client) 1 0 ≡ 0 = rw off refl in
-          omega (arith, makers_cons number client g gs, zero_one, none, right)
-    ]
+    let by : g.client ≡ call.client =
+    sym (call_parts s before g.client g.stamp.claims g.request g.reply made e).by
+    ∙ ap (λ (c : JournalCall). c.client) same in
+    rw (
+      eq-eqb g.client call.client by,
+      eq-eqb g.stamp.calls number (omega (arith, is.0.calls, here)),
+      hit,
+    ) refl
 
-at_most_one : (b : Bool) → cond {A = ℕ} b 1 0 ≤ 1
-at_most_one true = omega arith
-at_most_one false = omega arith
-
-further_after : (s : SetupParts) (before : List JournalCall) (low : ℕ) (g : Given) (number : ℕ)
-    → IsGiven s before low g → length before < number → length (journal_after s before g) ≤ number
-further_after s before low g number is lt =
-    omega (arith, lt, after_length s before low g is, at_most_one (accepts g.reply))
-
-made_or_not : (s : SetupParts) (before : List JournalCall) (low : ℕ) (g : Given) (gs : List Given)
-    (after : List JournalCall) (high : ℕ) → AreGiven s before low (g ∷ gs) after high
-    → (number client : ℕ) (call : JournalCall) → number ≡ length before
-    → slice_get after number ≡ Some call → (o : Option JournalCall) → call_given s before g ≡ o
-    → (length (journal_after s before g) ≤ number
-    → makers number (given_to client gs) ≡ cond (eqb client call.client) 1 0)
-    → makers number (given_to client (g ∷ gs)) ≡ cond (eqb client call.client) 1 0
-made_or_not s before low g gs after high is number client call here at (Some made) e rest =
-    made_here s before low g gs after high is number client call made here at e
-made_or_not s before low g gs after high is number client call here at None e rest =
-    let none : accepts g.reply ≡ false = sym (given_accepts s before low g is.0) ∙ ap is_some e in
-    let same : length (journal_after s before g) ≡ length before =
-    after_length s before low g is.0 ∙ ap (λ (b : Bool). length before + cond b 1 0) none
-    ∙ (omega arith) in
-    makers_skip number client g gs (and_right (eqb g.stamp.calls number) (accepts g.reply) none)
-    ∙ rest (omega (arith, same, here))
-
--- the call of each number after these was made by one answer, which is one of its own client
-pub one_maker : (s : SetupParts) (before : List JournalCall) (low : ℕ) (given : List Given)
+-- the call of each number after these was made by an answer to its own client
+pub its_maker : (s : SetupParts) (before : List JournalCall) (low : ℕ) (given : List Given)
     (after : List JournalCall) (high : ℕ) → AreGiven s before low given after high
-    → (number client : ℕ) (call : JournalCall) → length before ≤ number
+    → (number : ℕ) (call : JournalCall) → length before ≤ number
     → slice_get after number ≡ Some call
-    → makers number (given_to client given) ≡ cond (eqb client call.client) 1 0
-one_maker s before low [] after high is number client call le at =
+    → has_maker number (given_to call.client given) ≡ true
+its_maker s before low [] after high is number call le at =
     absurd (omega (arith, le, slice_get_within after number call at, ap length is.0))
-one_maker s before low (g ∷ gs) after high is number client call le at =
-    elim (cases_lt (length before) number) [
-      | inl further ↦
-          let miss : is_maker number g ≡ false =
-          first_miss (eqb g.stamp.calls number) (accepts g.reply)
-          (ne_eqb g.stamp.calls number (λ e. omega (arith, e, is.0.calls, further))) in
-          makers_skip number client g gs miss
-          ∙ one_maker s (journal_after s before g) g.stamp.claims gs after high is.1
-          number client call
-          (further_after s before low g number is.0 further) at
-      | inr near ↦ made_or_not s before low g gs after high is number client call
-          (omega (arith, near, le)) at (call_given s before g) refl
-          (λ short. one_maker s (journal_after s before g) g.stamp.claims gs after high is.1 number
-          client call short at)
+its_maker s before low (g ∷ gs) after high is number call le at =
+    let long = after_length s before low g is.0 in
+    elim (cases_lt number (length (journal_after s before g))) [
+      | inl here ↦
+          let hit : accepts g.reply ≡ true =
+          accepts_more (length before) (accepts g.reply) (omega (arith, le, here, long)) in
+          made_here s before low g gs after high is number call (call_given s before g) refl hit
+          (omega (arith, le, here, long, few_more (accepts g.reply))) at
+      | inr further ↦ kept_maker number call.client g gs
+          (its_maker s (journal_after s before g) g.stamp.claims gs after high is.1 number call
+          further at)
     ]

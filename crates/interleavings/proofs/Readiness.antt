@@ -1,4 +1,5 @@
 -- What is kept, after each event.
+use Rattle.interleavings.proofs.Shapes.{HasShape}
 use Rattle.std.proofs.Common.{◌≡◌, ℕ, ◌<◌, max, Bool, true, false, eqb, ltb, List, [], ◌∷◌}
 use Rattle.std.proofs.Common.{◌++◌, length, map, set, Option, Some, None, inl, inr, refl, sym, ap}
 use Rattle.std.proofs.Common.{◌∙◌, arith, ℤ}
@@ -18,12 +19,11 @@ use Rattle.book_words.specs.declared.history.ClaimItem.{ClaimItem}
 use Rattle.book_words.specs.declared.history.ReplyItem.{ReplyItem}
 use Rattle.plain_book.specs.Desk.{desk_parts}
 use Rattle.book_words.specs.History.{history_of, in_order, put}
-use Rattle.plain_book.proofs.Waiting.{HasOutputs}
 use Rattle.interleavings.specs.declared.events.Answer.{Answer}
 use Rattle.interleavings.specs.declared.events.Answer.TheVariants.{Done, Over}
 use Rattle.interleavings.specs.declared.events.Event.{Event}
 use Rattle.interleavings.specs.declared.events.Event.TheVariants.{Claim, Look, Set, Close, Call}
-use Rattle.interleavings.specs.declared.events.Taken.{Taken}
+use Rattle.interleavings.specs.declared.events.AnsweredEvent.{AnsweredEvent}
 use Rattle.interleavings.specs.declared.facts.Facts.{Facts}
 use Rattle.interleavings.specs.Core.{IsReady, closing_in, set_at, sight_in, upto_by}
 use Rattle.interleavings.specs.Events.{IsRun, answer_of, block_in, call_in, claims_in, closes}
@@ -41,15 +41,15 @@ use Rattle.interleavings.proofs.Staying.{claim_stays, unseen}
 -- ---- histories
 
 -- the claims of these events, as they are shown
-abbrev pub claims_of : SetupParts → List Taken → List ClaimItem
+abbrev pub claims_of : SetupParts → List AnsweredEvent → List ClaimItem
 claims_of s events =
     map (claim_in s (journal_in s events) events) (range_with_len 0 (claims_in events))
 
 -- the replies of these events, in order
-abbrev pub replies_in : List Taken → List ReplyItem
+abbrev pub replies_in : List AnsweredEvent → List ReplyItem
 replies_in events = in_order (replies_given events)
 
-pub history_is : (s : SetupParts) (events : List Taken)
+pub history_is : (s : SetupParts) (events : List AnsweredEvent)
     → history_in s events ≡ history_of (claims_of s events) (journal_in s events)
     (replies_in events)
 unfolding history_in
@@ -65,14 +65,15 @@ put_all : (acc xs ys : List ReplyItem) → fold put acc (xs ++ ys) ≡ fold put 
 put_all acc [] ys = refl
 put_all acc (x ∷ xs) ys = put_all (put acc x) xs ys
 
-pub replies_more : (before : List Taken) (t : Taken)
+pub replies_more : (before : List AnsweredEvent) (t : AnsweredEvent)
     → replies_in (before ++ t ∷ []) ≡ fold put (replies_in before) (replies_given (t ∷ []))
 replies_more before t =
-    ap in_order (filter_map-append (λ (x : Taken). reply_in x.event x.answer) before (t ∷ []))
+    ap in_order (filter_map-append (λ (x : AnsweredEvent). reply_in x.event x.answer) before
+    (t ∷ []))
     ∙ put_all [] (replies_given before) (replies_given (t ∷ []))
 
 -- these events and one more, as it is answered
-abbrev pub behind : SetupParts → ℕ → List Taken → Event → List Taken
+abbrev pub behind : SetupParts → ℕ → List AnsweredEvent → Event → List AnsweredEvent
 behind s ticks before event = before ++ taken_by s ticks before event ∷ []
 
 -- ---- closings
@@ -83,7 +84,7 @@ max_assoc a b c = omega arith
 max_swap : (a : ℕ) → max a 0 ≡ max 0 a
 max_swap a = omega arith
 
-pub closing_more : (before : List Taken) (t : Taken) (input : ℕ)
+pub closing_more : (before : List AnsweredEvent) (t : AnsweredEvent) (input : ℕ)
     → closing_in (before ++ t ∷ []) input ≡ max (closing_in before input) (upto_by input t.event)
 closing_more [] t input = max_swap (upto_by input t.event)
 closing_more (b ∷ before) t input =
@@ -93,7 +94,7 @@ closing_more (b ∷ before) t input =
 max_none : (a b : ℕ) → b ≡ 0 → max a b ≡ a
 max_none a b e = omega (arith, e)
 
-pub closings_stay : (before : List Taken) (t : Taken) (n : ℕ)
+pub closings_stay : (before : List AnsweredEvent) (t : AnsweredEvent) (n : ℕ)
     → ((input : ℕ) → upto_by input t.event ≡ 0)
     → map (closing_in (before ++ t ∷ [])) (range_with_len 0 n)
     ≡ map (closing_in before) (range_with_len 0 n)
@@ -103,7 +104,8 @@ closings_stay before t n none =
 
 -- ---- claims, calls, replies and sights
 
-pub claims_stay : (s : SetupParts) (ticks : ℕ) (before : List Taken) (event : Event) → HasOutputs s
+pub claims_stay : (s : SetupParts) (ticks : ℕ) (before : List AnsweredEvent) (event : Event)
+    → HasShape s
     → IsRun s ticks before
     → drawn (answer_of s ticks before event) ≡ None
     → ((worker k input : ℕ) (o : Option ℕ)
@@ -119,7 +121,7 @@ claims_stay s ticks before event some run none blind =
     (λ input. blind (worker_of before k) k input
     (option_or (latest_of (worker_of before k) before) None))))
 
-pub journal_stays : (s : SetupParts) (before : List Taken) (t : Taken)
+pub journal_stays : (s : SetupParts) (before : List AnsweredEvent) (t : AnsweredEvent)
     → call_in s (journal_in s before) t.event t.answer ≡ None
     → journal_in s (before ++ t ∷ []) ≡ journal_in s before
 journal_stays s before t empty =
@@ -127,12 +129,12 @@ journal_stays s before t empty =
     ∙ ap (λ (o : Option JournalCall). journal_in s before ++ option_to_list o) empty
     ∙ append-nil (journal_in s before)
 
-pub replies_stay : (before : List Taken) (t : Taken) → replies_given (t ∷ []) ≡ []
+pub replies_stay : (before : List AnsweredEvent) (t : AnsweredEvent) → replies_given (t ∷ []) ≡ []
     → replies_in (before ++ t ∷ []) ≡ replies_in before
 replies_stay before t none = replies_more before t
     ∙ ap (λ (z : List ReplyItem). fold put (replies_in before) z) none
 
-pub sights_stay : (s : SetupParts) (workers : ℕ) (before : List Taken) (t : Taken)
+pub sights_stay : (s : SetupParts) (workers : ℕ) (before : List AnsweredEvent) (t : AnsweredEvent)
     → drawn t.answer ≡ None
     → ((worker k input : ℕ) (o : Option ℕ) → sees_by s worker k input o t ≡ false)
     → map (sight_in s (before ++ t ∷ [])) (range_with_len 0 workers)
@@ -154,8 +156,8 @@ none_given : (event : Event) (answer : Answer) → reply_in event answer ≡ Non
     → replies_given (taken event answer ∷ []) ≡ []
 none_given event answer e = rw e refl
 
-pub quiet_ready : (s : SetupParts) (ticks workers : ℕ) (before : List Taken) (event : Event)
-    (old new : Facts) → HasOutputs s → IsRun s ticks before
+pub quiet_ready : (s : SetupParts) (ticks workers : ℕ) (before : List AnsweredEvent) (event : Event)
+    (old new : Facts) → HasShape s → IsRun s ticks before
     → IsQuiet s event (answer_of s ticks before event) → IsReady s workers before old
     → new.desk ≡ old.desk → new.sights ≡ old.sights → new.history ≡ old.history
     → length new.blocks.items ≡ length old.blocks.items
@@ -183,7 +185,7 @@ quiet_ready s ticks workers before event old new some run is ready desk sights h
           replies);
     }
 
-pub blocks_stay : (before : List Taken) (t : Taken) (blocks : Blocks)
+pub blocks_stay : (before : List AnsweredEvent) (t : AnsweredEvent) (blocks : Blocks)
     → ((input tick : ℕ) → set_by input tick t ≡ None)
     → ((input tick : ℕ) → blocks input tick ≡ block_in before input tick) → (input tick : ℕ)
     → blocks input tick ≡ block_in (before ++ t ∷ []) input tick
@@ -193,8 +195,8 @@ blocks_stay before t blocks none so_far input tick =
     ∙ option_or-None (block_in before input tick))
 
 -- nothing at all changes
-pub idle_ready : (s : SetupParts) (ticks workers : ℕ) (before : List Taken) (event : Event)
-    (old : Facts) → HasOutputs s → IsRun s ticks before
+pub idle_ready : (s : SetupParts) (ticks workers : ℕ) (before : List AnsweredEvent) (event : Event)
+    (old : Facts) → HasShape s → IsRun s ticks before
     → IsQuiet s event (answer_of s ticks before event) → IsReady s workers before old
     → ((input tick : ℕ) → set_by input tick (taken_by s ticks before event) ≡ None)
     → ((input : ℕ) → upto_by input event ≡ 0)
@@ -207,8 +209,8 @@ idle_ready s ticks workers before event old some run is ready unset unclosed =
 
 -- ---- the events
 
-pub over_ready : (s : SetupParts) (ticks workers : ℕ) (before : List Taken) (worker : ℕ)
-    (old : Facts) → HasOutputs s → IsRun s ticks before
+pub over_ready : (s : SetupParts) (ticks workers : ℕ) (before : List AnsweredEvent) (worker : ℕ)
+    (old : Facts) → HasShape s → IsRun s ticks before
     → answer_of s ticks before (Claim worker) ≡ Over → IsReady s workers before old
     → IsReady s workers (behind s ticks before (Claim worker)) old
 over_ready s ticks workers before worker old some run is ready =
@@ -221,8 +223,9 @@ over_ready s ticks workers before worker old some run is ready =
     }) ready
     (λ input tick. rw is refl) (λ input. refl)
 
-pub unseen_ready : (s : SetupParts) (ticks workers : ℕ) (before : List Taken) (worker at : ℕ)
-    (old : Facts) → HasOutputs s → IsRun s ticks before
+pub unseen_ready : (s : SetupParts) (ticks workers : ℕ) (before : List AnsweredEvent)
+    (worker at : ℕ)
+    (old : Facts) → HasShape s → IsRun s ticks before
     → saw (answer_of s ticks before (Look worker at)) ≡ false
     → is_done (answer_of s ticks before (Look worker at)) ≡ false
     → IsReady s workers before old → IsReady s workers (behind s ticks before (Look worker at)) old
@@ -241,8 +244,9 @@ set_quiet : (s : SetupParts) (input tick : ℕ) (block : List ℤ) (answer : Ans
 set_quiet s input tick block answer none =
     record { undrawn = none; uncalled = λ journal. refl; silent = refl; blind = λ w k i o. refl }
 
-pub unset_ready : (s : SetupParts) (ticks workers : ℕ) (before : List Taken) (input tick : ℕ)
-    (block : List ℤ) (old : Facts) → HasOutputs s
+pub unset_ready : (s : SetupParts) (ticks workers : ℕ) (before : List AnsweredEvent)
+    (input tick : ℕ)
+    (block : List ℤ) (old : Facts) → HasShape s
     → IsRun s ticks before
     → drawn (answer_of s ticks before (Set input tick block)) ≡ None
     → is_done (answer_of s ticks before (Set input tick block)) ≡ false
@@ -264,8 +268,8 @@ is_here : (input tick i t : ℕ) → (eqb input i && eqb tick t) ≡ true → (i
 is_here input tick i t h = let p = and_parts (eqb input i) (eqb tick t) h in
     (eqb-true input i p.0, eqb-true tick t p.1)
 
-pub set_ready : (s : SetupParts) (ticks workers : ℕ) (before : List Taken) (input tick : ℕ)
-    (block : List ℤ) (old new : Facts) → HasOutputs s
+pub set_ready : (s : SetupParts) (ticks workers : ℕ) (before : List AnsweredEvent) (input tick : ℕ)
+    (block : List ℤ) (old new : Facts) → HasShape s
     → IsRun s ticks before
     → answer_of s ticks before (Set input tick block) ≡ Done → block_in before input tick ≡ None
     → new.desk ≡ old.desk → new.sights ≡ old.sights → new.history ≡ old.history
@@ -291,8 +295,9 @@ set_ready s ticks workers before input tick block old new some run is free desk 
     ∙ ap (option_or (block_in before i at)) (sym own) ∙ sym (block_more before t i at))
     (closings ∙ ready.closings ∙ sym (closings_stay before t (length s.device.inputs) (λ i. refl)))
 
-pub close_ready : (s : SetupParts) (ticks workers : ℕ) (before : List Taken) (input upto : ℕ)
-    (old new : Facts) → HasOutputs s
+pub close_ready : (s : SetupParts) (ticks workers : ℕ) (before : List AnsweredEvent)
+    (input upto : ℕ)
+    (old new : Facts) → HasShape s
     → IsRun s ticks before → input < length s.device.inputs
     → new.desk ≡ old.desk → new.sights ≡ old.sights → new.history ≡ old.history
     → new.blocks ≡ old.blocks
@@ -341,7 +346,7 @@ ltb_max t a b = elim (cases_lt t a) [
   ]
 ]
 
-pub closed_is : (events : List Taken) (input tick : ℕ)
+pub closed_is : (events : List AnsweredEvent) (input tick : ℕ)
     → is_closed events input tick ≡ ltb tick (closing_in events input)
 closed_is [] input tick = below_none tick
 closed_is (t ∷ events) input tick =

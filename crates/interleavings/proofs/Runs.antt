@@ -12,24 +12,26 @@ use Rattle.map_entry.specs.Setup.{SetupParts}
 use Rattle.book_words.specs.declared.calls.JournalCall.{JournalCall}
 use Rattle.plain_book.proofs.Lists.{slice_get_take}
 use Rattle.plain_book.proofs.Prefixes.{no_item}
-use Rattle.interleavings.specs.declared.events.Taken.{Taken}
+use Rattle.interleavings.specs.declared.events.AnsweredEvent.{AnsweredEvent}
 use Rattle.interleavings.specs.Events.{IsRun, answer_of, call_in, claims_in, drawn, journal_from}
 use Rattle.interleavings.specs.Events.{journal_in}
 
 -- what one more event does to what is said of the events before it
-abbrev pub IsStep : SetupParts → ℕ → (List Taken → Type 0) → Type 0
-IsStep s ticks P = (before : List Taken) (t : Taken) → IsRun s ticks before
+abbrev pub IsStep : SetupParts → ℕ → (List AnsweredEvent → Type 0) → Type 0
+IsStep s ticks P = (before : List AnsweredEvent) (t : AnsweredEvent) → IsRun s ticks before
     → t.answer ≡ answer_of s ticks before t.event → P before → P (before ++ t ∷ [])
 
-run_before : (s : SetupParts) (ticks : ℕ) (events : List Taken) (k : ℕ) → IsRun s ticks events
+run_before : (s : SetupParts) (ticks : ℕ) (events : List AnsweredEvent) (k : ℕ)
+    → IsRun s ticks events
     → IsRun s ticks (take k events)
 run_before s ticks events k run i t e =
     let at = slice_get_take events k i t e in
     rw (take-take i k events (omega (arith, at.1))) (run i t at.0)
 
-step_to : (s : SetupParts) (ticks : ℕ) (P : List Taken → Type 0) → IsStep s ticks P
-    → (events : List Taken) → IsRun s ticks events
-    → (k : ℕ) (o : Option Taken) → slice_get events k ≡ o → k < length events → P (take k events)
+step_to : (s : SetupParts) (ticks : ℕ) (P : List AnsweredEvent → Type 0) → IsStep s ticks P
+    → (events : List AnsweredEvent) → IsRun s ticks events
+    → (k : ℕ) (o : Option AnsweredEvent) → slice_get events k ≡ o → k < length events
+    → P (take k events)
     → P (take (k + 1) events)
 step_to s ticks P more events run k None is lt before =
     absurd (omega (arith, lt, no_item events k is))
@@ -39,8 +41,8 @@ step_to s ticks P more events run k (Some t) is lt before =
     let same : get_or events k t ≡ t = get_or_from_slice_get events k t t is in
     rw (next, same) (more (take k events) t (run_before s ticks events k run) (run k t is) before)
 
-upto : (s : SetupParts) (ticks : ℕ) (P : List Taken → Type 0) → P [] → IsStep s ticks P
-    → (events : List Taken) → IsRun s ticks events
+upto : (s : SetupParts) (ticks : ℕ) (P : List AnsweredEvent → Type 0) → P [] → IsStep s ticks P
+    → (events : List AnsweredEvent) → IsRun s ticks events
     → (k : ℕ) → k ≤ length events → P (take k events)
 upto s ticks P none more events run zero le = none
 upto s ticks P none more events run (suc k) le =
@@ -50,8 +52,9 @@ upto s ticks P none more events run (suc k) le =
     (upto s ticks P none more events run k (omega (arith, le))))
 
 -- what holds of no events, and of one more event after a run of which it holds, holds of each run
-pub run_by : (s : SetupParts) (ticks : ℕ) (P : List Taken → Type 0) → P [] → IsStep s ticks P
-    → (events : List Taken) → IsRun s ticks events → P events
+pub run_by : (s : SetupParts) (ticks : ℕ) (P : List AnsweredEvent → Type 0) → P []
+    → IsStep s ticks P
+    → (events : List AnsweredEvent) → IsRun s ticks events → P events
 run_by s ticks P none more events run =
     let whole : take (length events) events ≡ events =
     take_all (length events) events (omega arith) in
@@ -59,16 +62,17 @@ run_by s ticks P none more events run =
 
 -- ---- claims and calls
 
-pub claims_more : (before : List Taken) (t : Taken)
+pub claims_more : (before : List AnsweredEvent) (t : AnsweredEvent)
     → claims_in (before ++ t ∷ []) ≡ claims_in before + cond (is_some (drawn t.answer)) 1 0
 claims_more before t =
     omega (
       arith,
-      sum_by-append (λ (x : Taken). cond (is_some (drawn x.answer)) 1 0)
+      sum_by-append (λ (x : AnsweredEvent). cond (is_some (drawn x.answer)) 1 0)
           before (t ∷ []),
     )
 
-from_more : (s : SetupParts) (journal : List JournalCall) (before : List Taken) (t : Taken)
+from_more : (s : SetupParts) (journal : List JournalCall) (before : List AnsweredEvent)
+    (t : AnsweredEvent)
     → journal_from s journal (before ++ t ∷ [])
     ≡ journal_from s journal before ++ option_to_list
     (call_in s (journal_from s journal before) t.event t.answer)
@@ -76,7 +80,7 @@ from_more s journal [] t = refl
 from_more s journal (b ∷ before) t =
     from_more s (journal ++ option_to_list (call_in s journal b.event b.answer)) before t
 
-pub journal_more : (s : SetupParts) (before : List Taken) (t : Taken)
+pub journal_more : (s : SetupParts) (before : List AnsweredEvent) (t : AnsweredEvent)
     → journal_in s (before ++ t ∷ [])
     ≡ journal_in s before ++ option_to_list (call_in s (journal_in s before) t.event t.answer)
 journal_more s before t = from_more s [] before t
@@ -84,7 +88,8 @@ journal_more s before t = from_more s [] before t
 -- ---- runs made of events
 
 -- one more event with the answer that it is given
-pub run_more : (s : SetupParts) (ticks : ℕ) (before : List Taken) (t : Taken) → IsRun s ticks before
+pub run_more : (s : SetupParts) (ticks : ℕ) (before : List AnsweredEvent) (t : AnsweredEvent)
+    → IsRun s ticks before
     → t.answer ≡ answer_of s ticks before t.event
     → IsRun s ticks (before ++ t ∷ [])
 run_more s ticks before t run is k x e = elim (slice_get-push before t k x e) [
@@ -93,7 +98,7 @@ run_more s ticks before t run is k x e = elim (slice_get-push before t k x e) [
   | inr new ↦
       let whole : take k (before ++ t ∷ []) ≡ before =
       ap (λ (i : ℕ). take i (before ++ t ∷ [])) new.0 ∙ take-append_seam before (t ∷ []) in
-      rw whole (subst (λ (y : Taken). y.answer ≡ answer_of s ticks before y.event) new.1 is)
+      rw whole (subst (λ (y : AnsweredEvent). y.answer ≡ answer_of s ticks before y.event) new.1 is)
 ]
 
 pub no_run : (s : SetupParts) (ticks : ℕ) → IsRun s ticks []

@@ -1,4 +1,15 @@
 -- Flags and packets by a row.
+use Rattle.map_entry.specs.Tick.{frame_key}
+use Rattle.plain_book.specs.Time.{key_at}
+use Rattle.packet_writer.specs.Packet.{RowFits}
+use Rattle.packet_writer.specs.Packet.{row_at}
+use Rattle.map_entry.specs.Row.{IsRowOf}
+use Rattle.map_entry.specs.Row.{channels_of_output}
+use Rattle.map_entry.proofs.Channels.{passed_there}
+use Rattle.plain_book.proofs.Sound.{row_is}
+use Rattle.plain_book.specs.Rows.{AreEntries}
+use Rattle.std.specs.Prelude.{IsSome}
+use Rattle.std.proofs.Common.{◌≤◌, refl}
 use Rattle.std.proofs.Common.{◌≡◌, ℕ, ◌<◌, Bool, true, false, List, [], length, map, sym, ap}
 use Rattle.std.proofs.Common.{◌∙◌, arith, zero-add, ℤ}
 use Rattle.std.specs.Prelude.{◌&&◌, if◌then◌else◌, is_some, IfNone, Option, Some, None}
@@ -13,12 +24,10 @@ use Rattle.map_entry.specs.Entry.{selected}
 use Rattle.map_entry.specs.Setup.{SetupParts}
 use Rattle.packet_writer.specs.Flags.{is_named}
 use Rattle.packet_writer.specs.Heard.{HasFrames}
-use Rattle.packet_writer.specs.Packet.{Blocks, claim_rows, flag_of, output_of_claim, packet_by}
+use Rattle.packet_writer.specs.Packet.{Blocks, claim_rows, flag_of, packet_by}
 use Rattle.book_words.specs.declared.calls.JournalCall.{JournalCall}
 use Rattle.book_words.specs.History.{claim_item}
 use Rattle.plain_book.specs.Journal.{entries_of}
-use Rattle.plain_book.specs.Time.{tick_of_claim}
-use Rattle.interleavings.specs.Core.{HasRow}
 use Rattle.interleavings.specs.Run.{claim_with, seen_flags}
 use Rattle.interleavings.proofs.Ranging.{alike}
 
@@ -45,14 +54,22 @@ flags_are f n made long each =
     let lt : i < n = omega (arith, within, long) in
     each i lt ∙ sym (get_or-map-range_with_len f 0 n i i false lt (zero-add i)))
 
--- the row that is selected for a claim rules all frames
-pub rows_are : (s : SetupParts) (entries : List Entry) (k output tick : ℕ) (row : List Cell)
-    → selected entries output tick ≡ Some row
-    → output ≡ output_of_claim s k → tick ≡ tick_of_claim s k → HasRow s entries k row
-rows_are s entries k output tick row is out at frame =
-    ap (λ (r : Option (List Cell)). unwrap_or r [])
-    (ap (λ (t : ℕ). selected entries (output_of_claim s k) t) (sym at)
-    ∙ ap (λ (o : ℕ). selected entries o tick) (sym out) ∙ is)
+-- the rows that entries of a device give an output fit it
+selected_fit : (s : SetupParts) (o : ℕ) (r : Option (List Cell)) → IsSome r
+    → ((row : List Cell) → r ≡ Some row → IsRowOf s.device o row)
+    → RowFits s.device.inputs (channels_of_output s.device o) (unwrap_or r [])
+selected_fit s o None there each = absurd (false≢true there)
+selected_fit s o (Some row) there each =
+    let fits = each row refl in (fits.long, passed_there s.device o row fits.passes)
+
+pub rows_fit : (s : SetupParts) (entries : List Entry) (o t f : ℕ)
+    → AreEntries s (key_at s s.device.base) entries → o < length s.device.outputs
+    → s.device.base ≤ t
+    → RowFits s.device.inputs (channels_of_output s.device o) (row_at entries o t f)
+rows_fit s entries o t f are there since =
+    selected_fit s o (selected entries o (frame_key t f))
+    (are.cover o (frame_key t f) there (omega (arith, since)))
+    (λ row is. row_is s (key_at s s.device.base) entries o (frame_key t f) row are is)
 
 -- the block that was found has all frames where each block has
 pub found_whole : (channels frames : ℕ) (flag : Bool) (block : Option (List ℤ))
@@ -63,19 +80,18 @@ found_whole channels frames false block has = tt
 
 -- a claim of these flags and this packet, by a journal
 pub claim_is : (s : SetupParts) (journal : List JournalCall) (blocks : Blocks) (seen : List Bool)
-    (k : ℕ) (row : List Cell) (found : List Bool)
+    (k : ℕ) (rows : ℕ → List Cell) (found : List Bool)
     (packet : List ℕ)
-    → HasRow s (entries_of s journal) k row
+    → ((frame : ℕ) → rows frame ≡ claim_rows s (entries_of s journal) k frame)
     → found ≡ map
-    (λ input. is_named s.device.rate.frames (λ frame. row) input && flag_of seen input)
+    (λ input. is_named s.device.rate.frames rows input && flag_of seen input)
     (range_with_len 0 (length s.device.inputs))
     → packet ≡ packet_by s (entries_of s journal) blocks found k
     → claim_item k found packet
     ≡ claim_with s journal blocks k (seen_flags s journal (flag_of seen) k)
-claim_is s journal blocks seen k row found packet rows flags text =
+claim_is s journal blocks seen k rows found packet same flags text =
     let n = length s.device.inputs in
-    let own : (λ (frame : ℕ). row) ≡ claim_rows s (entries_of s journal) k =
-    alike (λ (frame : ℕ). sym (rows frame)) in
+    let own : rows ≡ claim_rows s (entries_of s journal) k = alike same in
     let flags_same : found ≡ seen_flags s journal (flag_of seen) k =
     flags ∙ ap (λ (r : ℕ → List Cell).
     map (λ input. is_named s.device.rate.frames r input && flag_of seen input) (range_with_len 0 n))

@@ -18,7 +18,7 @@ use Rattle.interleavings.specs.declared.events.Event.{Event}
 use Rattle.interleavings.specs.declared.events.Event.TheVariants.{Claim, Look, Set, Close, Call}
 use Rattle.interleavings.specs.declared.events.Answer.{Answer}
 use Rattle.interleavings.specs.declared.events.Answer.TheVariants.{Claimed, Over, Seen}
-use Rattle.interleavings.specs.declared.events.Taken.{Taken}
+use Rattle.interleavings.specs.declared.events.AnsweredEvent.{AnsweredEvent}
 use Rattle.interleavings.specs.declared.facts.Sight.{Sight}
 use Rattle.interleavings.specs.Core.{inherited, sees, sight_in}
 use Rattle.interleavings.specs.Events.{IsRun, block_in, claims_in, is_closed, drawn, latest_of}
@@ -47,13 +47,13 @@ nothing_for s true false = refl
 nothing_for s false a = refl
 
 -- where the latest claim of a worker is of the tick of claim n, whether it saw an input for that
-abbrev handed_on : SetupParts → ℕ → ℕ → ℕ → List Taken → Option ℕ → Bool
+abbrev handed_on : SetupParts → ℕ → ℕ → ℕ → List AnsweredEvent → Option ℕ → Bool
 handed_on s worker n input events latest =
     option_map_or
     (λ j. eqb (tick_of_claim s j) (tick_of_claim s n) && seen_from s worker j input None events)
     latest false
 
-kept_in : (s : SetupParts) (worker n input : ℕ) (before after : List Taken) (o : Option ℕ)
+kept_in : (s : SetupParts) (worker n input : ℕ) (before after : List AnsweredEvent) (o : Option ℕ)
     → ((k : ℕ) → seen_from s worker k input None after ≡ seen_from s worker k input None before)
     → handed_on s worker n input before o ≡ handed_on s worker n input after o
 kept_in s worker n input before after None stays = refl
@@ -62,14 +62,15 @@ kept_in s worker n input before after (Some j) stays =
 
 -- ---- an event that a worker neither claims nor sees by
 
-sees_is : (s : SetupParts) (events : List Taken) (worker input : ℕ) (o : Option ℕ)
+sees_is : (s : SetupParts) (events : List AnsweredEvent) (worker input : ℕ) (o : Option ℕ)
     → latest_of worker events ≡ o
     → sees s events worker input
     ≡ option_map_or (λ k. seen_from s worker k input None events) o false
 sees_is s events worker input o is =
     ap (λ (l : Option ℕ). option_map_or (λ k. seen_from s worker k input None events) l false) is
 
-sees_kept_by : (s : SetupParts) (before : List Taken) (t : Taken) (worker input : ℕ) (o : Option ℕ)
+sees_kept_by : (s : SetupParts) (before : List AnsweredEvent) (t : AnsweredEvent)
+    (worker input : ℕ) (o : Option ℕ)
     → ((k : ℕ) → o ≡ Some k → sees_by s worker k input (option_or o None) t ≡ false)
     → latest_of worker before ≡ o
     → option_map_or (λ k. seen_from s worker k input None (before ++ t ∷ [])) o false
@@ -81,12 +82,12 @@ sees_kept_by s before t worker input (Some k) blind is =
     (sees_by s worker k input (option_or (latest_of worker before) None) t)
     (ap (λ (l : Option ℕ). sees_by s worker k input (option_or l None) t) is ∙ blind k refl)
 
-pub sight_kept : (s : SetupParts) (before : List Taken) (t : Taken) (worker : ℕ)
+pub sight_kept : (s : SetupParts) (before : List AnsweredEvent) (t : AnsweredEvent) (worker : ℕ)
     → latest_of worker (before ++ t ∷ []) ≡ latest_of worker before
     → ((k input : ℕ) (o : Option ℕ) → sees_by s worker k input o t ≡ false)
     → sight_in s (before ++ t ∷ []) worker ≡ sight_in s before worker
 sight_kept s before t worker latest blind =
-    let after : List Taken = before ++ t ∷ [] in
+    let after : List AnsweredEvent = before ++ t ∷ [] in
     let o = latest_of worker before in
     both the_sight latest
     (map_same_below (sees s after worker) (sees s before worker) (length s.device.inputs)
@@ -107,14 +108,15 @@ tick_grows : (s : SetupParts) (a b : ℕ) → 0 < length s.device.outputs → a 
     → tick_of_claim s a ≤ tick_of_claim s b
 tick_grows s a b some le = omega (arith, quotient_grows a b (length s.device.outputs) some le)
 
-abbrev AreInherited : SetupParts → List Taken → Type 0
+abbrev AreInherited : SetupParts → List AnsweredEvent → Type 0
 AreInherited s events =
     (worker n input : ℕ) → claims_in events ≤ n
     → seen_from s worker n input None events
     ≡ handed_on s worker n input events (latest_of worker events)
 
 -- an event by which a worker sees nothing and claims nothing
-inherited_kept : (s : SetupParts) (before : List Taken) (t : Taken) (worker n input : ℕ)
+inherited_kept : (s : SetupParts) (before : List AnsweredEvent) (t : AnsweredEvent)
+    (worker n input : ℕ)
     (o : Option ℕ) → latest_of worker before ≡ o
     → latest_of worker (before ++ t ∷ []) ≡ o
     → ((k : ℕ) (l : Option ℕ) → sees_by s worker k input l t ≡ false)
@@ -146,7 +148,7 @@ squeezed a b c x low high = elim (cases_Bool (eqb a c)) [
   ]
 ]
 
-own_claim : (s : SetupParts) (before : List Taken) (worker n input : ℕ) (o : Option ℕ)
+own_claim : (s : SetupParts) (before : List AnsweredEvent) (worker n input : ℕ) (o : Option ℕ)
     → HasOutputs s → AreDrawn before
     → latest_of worker before ≡ o → claims_in before ≤ n
     → handed_on s worker n input before o
@@ -172,7 +174,8 @@ own_look s worker n j x seen a b lt =
     eq-eqb (tick_of_claim s j) (tick_of_claim s j) refl in
     rw (blind, same, on) (spread (eqb (tick_of_claim s j) (tick_of_claim s n)) x b a)
 
-inherited_look : (s : SetupParts) (before : List Taken) (t : Taken) (worker n input : ℕ)
+inherited_look : (s : SetupParts) (before : List AnsweredEvent) (t : AnsweredEvent)
+    (worker n input : ℕ)
     (o : Option ℕ) → AreDrawn before → claims_in before ≤ n
     → latest_of worker before ≡ o → latest_of worker (before ++ t ∷ []) ≡ o
     → seen_from s worker n input None before ≡ handed_on s worker n input before o
@@ -198,7 +201,7 @@ inherited_look s before t worker n input (Some j) are le is same so_far =
     (λ (l : Option ℕ). seen_from s worker j input None before || sees_by s worker j input
     (option_or l None) t) is))
 
-inherited_claim : (s : SetupParts) (before : List Taken) (worker : ℕ) → HasOutputs s
+inherited_claim : (s : SetupParts) (before : List AnsweredEvent) (worker : ℕ) → HasOutputs s
     → AreDrawn before → AreInherited s before
     → AreInherited s (before ++ claimed before worker ∷ [])
 inherited_claim s before worker some are so_far w n input le =
@@ -229,7 +232,8 @@ inherited_claim s before worker some are so_far w n input le =
     ]
 
 -- an event by which nothing is drawn
-inherited_quiet : (s : SetupParts) (before : List Taken) (t : Taken) → drawn t.answer ≡ None
+inherited_quiet : (s : SetupParts) (before : List AnsweredEvent) (t : AnsweredEvent)
+    → drawn t.answer ≡ None
     → AreDrawn before → AreInherited s before
     → AreInherited s (before ++ t ∷ [])
 inherited_quiet s before t none are so_far w n input le =
@@ -239,7 +243,7 @@ inherited_quiet s before t none are so_far w n input le =
     (so_far w n input (omega (arith, le, c)))
     ∙ sym (ap (handed_on s w n input (before ++ t ∷ [])) latest)
 
-by_answer : (s : SetupParts) (before : List Taken) (worker : ℕ) (b : Bool) → HasOutputs s
+by_answer : (s : SetupParts) (before : List AnsweredEvent) (worker : ℕ) (b : Bool) → HasOutputs s
     → AreDrawn before → AreInherited s before
     → AreInherited s
     (before ++ taken (Claim worker) (if b then Claimed (claims_in before) else Over) ∷ [])
@@ -247,7 +251,8 @@ by_answer s before worker true some are so_far = inherited_claim s before worker
 by_answer s before worker false some are so_far =
     inherited_quiet s before (taken (Claim worker) Over) refl are so_far
 
-more_inherited : (s : SetupParts) (ticks : ℕ) (before : List Taken) (event : Event) → HasOutputs s
+more_inherited : (s : SetupParts) (ticks : ℕ) (before : List AnsweredEvent) (event : Event)
+    → HasOutputs s
     → AreDrawn before → AreInherited s before
     → AreInherited s (before ++ taken_by s ticks before event ∷ [])
 more_inherited s ticks before (Claim worker) some are so_far =
@@ -264,7 +269,7 @@ more_inherited s ticks before (Close input upto) some are so_far =
 more_inherited s ticks before (Call client request) some are so_far =
     inherited_quiet s before (taken_by s ticks before (Call client request)) refl are so_far
 
-pub inherits : (s : SetupParts) (ticks : ℕ) (events : List Taken) → HasOutputs s
+pub inherits : (s : SetupParts) (ticks : ℕ) (events : List AnsweredEvent) → HasOutputs s
     → IsRun s ticks events → AreInherited s events
 inherits s ticks events some run =
     run_by s ticks (AreInherited s) (λ worker n input le. refl)
@@ -275,7 +280,8 @@ inherits s ticks events some run =
 -- ---- the sights after an event
 
 -- the sight of a worker that claims
-inherited_by : (s : SetupParts) (before : List Taken) (worker k : ℕ) (o : Option ℕ) (input : ℕ)
+inherited_by : (s : SetupParts) (before : List AnsweredEvent) (worker k : ℕ) (o : Option ℕ)
+    (input : ℕ)
     → input < length s.device.inputs
     → handed_on s worker k input before o
     ≡ get_or (inherited s o
@@ -307,7 +313,8 @@ length-inherited s (Some j) f k = elim (cases_Bool (eqb (tick_of_claim s j) (tic
   | inr other ↦ rw other (length-map-range_with_len (λ (i : ℕ). false) 0 (length s.device.inputs))
 ]
 
-pub claim_sees : (s : SetupParts) (ticks : ℕ) (before : List Taken) (worker : ℕ) → HasOutputs s
+pub claim_sees : (s : SetupParts) (ticks : ℕ) (before : List AnsweredEvent) (worker : ℕ)
+    → HasOutputs s
     → IsRun s ticks before
     → inherited s (sight_in s before worker).latest (sight_in s before worker).seen
     (claims_in before) ≡ map
@@ -315,7 +322,7 @@ pub claim_sees : (s : SetupParts) (ticks : ℕ) (before : List Taken) (worker : 
     (range_with_len 0 (length s.device.inputs))
 claim_sees s ticks before worker some run =
     let t = claimed before worker in
-    let after : List Taken = before ++ t ∷ [] in
+    let after : List AnsweredEvent = before ++ t ∷ [] in
     let n = length s.device.inputs in
     let k = claims_in before in
     let o = latest_of worker before in
@@ -334,14 +341,14 @@ claim_sees s ticks before worker some run =
     ∙ inherited_by s before worker k o input lt))
 
 -- the sight of a worker that looks and sees
-pub look_sees : (s : SetupParts) (before : List Taken) (worker at j : ℕ)
+pub look_sees : (s : SetupParts) (before : List AnsweredEvent) (worker at j : ℕ)
     → latest_of worker before ≡ Some j → at < length s.device.inputs
     → set (sight_in s before worker).seen at true
     ≡ map (sees s (before ++ taken (Look worker at) (Seen true) ∷ []) worker)
     (range_with_len 0 (length s.device.inputs))
 look_sees s before worker at j is lt =
-    let t : Taken = taken (Look worker at) (Seen true) in
-    let after : List Taken = before ++ t ∷ [] in
+    let t : AnsweredEvent = taken (Look worker at) (Seen true) in
+    let after : List AnsweredEvent = before ++ t ∷ [] in
     let latest : latest_of worker after ≡ Some j = latest_kept worker before t refl ∙ is in
     let new : (input : ℕ) → sees s after worker input
     ≡ (sees s before worker input || sees_by s worker j input (Some j) t) =

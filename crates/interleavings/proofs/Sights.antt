@@ -17,7 +17,7 @@ use Rattle.plain_book.specs.Time.{tick_of_claim}
 use Rattle.interleavings.specs.declared.events.Event.{Event}
 use Rattle.interleavings.specs.declared.events.Event.TheVariants.{Claim, Look, Set, Close, Call}
 use Rattle.interleavings.specs.declared.events.Answer.{Answer}
-use Rattle.interleavings.specs.declared.events.Taken.{Taken}
+use Rattle.interleavings.specs.declared.events.AnsweredEvent.{AnsweredEvent}
 use Rattle.interleavings.specs.Events.{IsRun, answer_of, block_by, block_in, drawn_by, is_done}
 use Rattle.interleavings.specs.Events.{journal_in, latest_of, look_answer}
 use Rattle.interleavings.specs.Legal.{IsClaim, free_form}
@@ -33,10 +33,10 @@ first_some-append {X} {Y} f (x ∷ xs) ys =
     ∙ sym (option_or-assoc (f x) (first_some f xs) (first_some f ys))
 
 -- the block that an event sets by its answer, where it sets one
-abbrev pub set_by : ℕ → ℕ → Taken → Option (List ℤ)
+abbrev pub set_by : ℕ → ℕ → AnsweredEvent → Option (List ℤ)
 set_by input tick t = if is_done t.answer then block_by input tick t.event else None
 
-pub block_more : (before : List Taken) (t : Taken) (input tick : ℕ)
+pub block_more : (before : List AnsweredEvent) (t : AnsweredEvent) (input tick : ℕ)
     → block_in (before ++ t ∷ []) input tick
     ≡ option_or (block_in before input tick) (set_by input tick t)
 block_more before t input tick =
@@ -44,7 +44,7 @@ block_more before t input tick =
     ∙ ap (option_or (block_in before input tick)) (option_or-None (set_by input tick t))
 
 -- a block that is there stays
-pub block_stays : (before : List Taken) (t : Taken) (input tick : ℕ)
+pub block_stays : (before : List AnsweredEvent) (t : AnsweredEvent) (input tick : ℕ)
     → is_some (block_in before input tick) ≡ true
     → is_some (block_in (before ++ t ∷ []) input tick) ≡ true
 block_stays before t input tick there = ap is_some (block_more before t input tick)
@@ -57,7 +57,7 @@ or_false true = refl
 or_false false = refl
 
 pub seen_more : (s : SetupParts) (worker k input : ℕ) (latest : Option ℕ)
-    (before : List Taken) (t : Taken)
+    (before : List AnsweredEvent) (t : AnsweredEvent)
     → seen_from s worker k input latest (before ++ t ∷ [])
     ≡ (seen_from s worker k input latest before || sees_by s worker k input
     (option_or (latest_of worker before) latest) t)
@@ -75,11 +75,11 @@ seen_more s worker k input latest (b ∷ before) t =
 
 -- ---- what was seen is there
 
-abbrev IsThere : SetupParts → List Taken → Type 0
+abbrev IsThere : SetupParts → List AnsweredEvent → Type 0
 IsThere s events = (worker k input : ℕ) → seen_from s worker k input None events ≡ true
     → is_some (block_in events input (tick_of_claim s k)) ≡ true
 
-look_found : (s : SetupParts) (before : List Taken) (input k : ℕ) (latest : Option ℕ)
+look_found : (s : SetupParts) (before : List AnsweredEvent) (input k : ℕ) (latest : Option ℕ)
     (answer : Answer) → answer ≡ look_answer s before input latest → saw answer ≡ true
     → is_for s k latest ≡ true
     → is_some (block_in before input (tick_of_claim s k)) ≡ true
@@ -92,7 +92,8 @@ look_found s before input k (Some j) answer is seen at =
     sym (ap saw is) ∙ seen in
     subst (λ (t : ℕ). is_some (block_in before input t) ≡ true) same there
 
-event_found : (s : SetupParts) (ticks : ℕ) (before : List Taken) (event : Event) (answer : Answer)
+event_found : (s : SetupParts) (ticks : ℕ) (before : List AnsweredEvent) (event : Event)
+    (answer : Answer)
     (worker k input : ℕ) → answer ≡ answer_of s ticks before event
     → looks worker input event ≡ true → saw answer ≡ true
     → is_for s k (latest_of worker before) ≡ true
@@ -113,7 +114,7 @@ event_found s ticks before (Close on upto) answer worker k input is look seen at
 event_found s ticks before (Call client request) answer worker k input is look seen at =
     absurd (false≢true look)
 
-more_there : (s : SetupParts) (ticks : ℕ) (before : List Taken) (t : Taken)
+more_there : (s : SetupParts) (ticks : ℕ) (before : List AnsweredEvent) (t : AnsweredEvent)
     → t.answer ≡ answer_of s ticks before t.event → IsThere s before → IsThere s (before ++ t ∷ [])
 more_there s ticks before t is so_far worker k input seen =
     let latest = option_or (latest_of worker before) None in
@@ -128,7 +129,7 @@ more_there s ticks before t is so_far worker k input seen =
           (sym (ap (is_for s k) (option_or-None (latest_of worker before))) ∙ b.1)
     ])
 
-pub seen_there : (s : SetupParts) (ticks : ℕ) (events : List Taken) → IsRun s ticks events
+pub seen_there : (s : SetupParts) (ticks : ℕ) (events : List AnsweredEvent) → IsRun s ticks events
     → IsThere s events
 seen_there s ticks events run =
     run_by s ticks (IsThere s) (λ worker k input h. absurd (false≢true h))
@@ -136,7 +137,8 @@ seen_there s ticks events run =
 
 -- ---- claims
 
-flags_free : (s : SetupParts) (ticks : ℕ) (events : List Taken) (k : ℕ) → IsRun s ticks events
+flags_free : (s : SetupParts) (ticks : ℕ) (events : List AnsweredEvent) (k : ℕ)
+    → IsRun s ticks events
     → AreFree s (has_seen s events) (entries_of s (journal_in s events)) (block_in events) k
     (seen_flags s (journal_in s events) (has_seen s events k) k)
 flags_free s ticks events k run =
@@ -158,7 +160,8 @@ flags_free s ticks events k run =
 
 -- each claim of a run has flags that the free form allows, and the packet by the whole journal over
 -- the blocks set
-pub run_claim : (s : SetupParts) (ticks : ℕ) (events : List Taken) (k : ℕ) → IsRun s ticks events
+pub run_claim : (s : SetupParts) (ticks : ℕ) (events : List AnsweredEvent) (k : ℕ)
+    → IsRun s ticks events
     → IsClaim s (journal_in s events) (block_in events)
     (free_form s (journal_in s events) (block_in events) (has_seen s events)) k
     (claim_in s (journal_in s events) events k)

@@ -1,4 +1,11 @@
 -- A claim stays as it is by every event but a look for it.
+use Rattle.map_entry.specs.Tick.{frame_key}
+use Rattle.interleavings.proofs.Shapes.{HasShape}
+use Rattle.packet_writer.proofs.ClaimLaws.{packet_by-same}
+use Rattle.packet_writer.proofs.ClaimLaws.{names_by-same}
+use Rattle.packet_writer.specs.Heard.{AreRows}
+use Rattle.packet_writer.specs.Flags.{names_by}
+use Rattle.packet_writer.specs.Packet.{packet_by}
 use Rattle.std.proofs.Common.{◌≡◌, ℕ, ◌<◌, ◌≤◌, Bool, true, false, eqb, ltb, List, [], ◌∷◌}
 use Rattle.std.proofs.Common.{◌++◌, length, take, drop, map, Option, Some, None, inl, inr, refl}
 use Rattle.std.proofs.Common.{sym, ap, ◌∙◌, arith, zero-add}
@@ -17,7 +24,7 @@ use Rattle.map_entry.specs.declared.cell.Cell.{Cell}
 use Rattle.map_entry.specs.Entry.{selected}
 use Rattle.map_entry.specs.Setup.{SetupParts}
 use Rattle.packet_writer.specs.Flags.{is_named}
-use Rattle.packet_writer.specs.Packet.{Blocks, claim_rows, flag_of, found_block, output_of_claim}
+use Rattle.packet_writer.specs.Packet.{Blocks, claim_rows, flag_of, output_of_claim}
 use Rattle.packet_writer.specs.Packet.{packet_on}
 use Rattle.book_words.specs.declared.calls.JournalCall.{JournalCall}
 use Rattle.book_words.specs.declared.history.ClaimItem.{ClaimItem}
@@ -30,18 +37,16 @@ use Rattle.plain_book.specs.Legal.{IsLegalJournal}
 use Rattle.plain_book.proofs.Giving.{call_parts, given_legal}
 use Rattle.plain_book.proofs.Prefixes.{no_calls}
 use Rattle.plain_book.proofs.Steady.{claimed}
-use Rattle.plain_book.proofs.Waiting.{HasOutputs}
 use Rattle.interleavings.specs.declared.events.Answer.{Answer}
 use Rattle.interleavings.specs.declared.events.Event.{Event}
 use Rattle.interleavings.specs.declared.events.Event.TheVariants.{Claim, Look, Set, Close, Call}
-use Rattle.interleavings.specs.declared.events.Taken.{Taken}
+use Rattle.interleavings.specs.declared.events.AnsweredEvent.{AnsweredEvent}
 use Rattle.interleavings.specs.Events.{IsRun, answer_of, block_in, call_in, claims_in, journal_in}
 use Rattle.interleavings.specs.Events.{latest_of, taken, taken_by}
 use Rattle.interleavings.specs.Run.{claim_in, claim_with, has_seen, is_for, looks, saw, seen_flags}
 use Rattle.interleavings.specs.Run.{seen_from, sees_by, worker_of}
 use Rattle.interleavings.proofs.Answering.{given_in, run_given}
 use Rattle.interleavings.proofs.Counting.{AreDrawn, are_drawn, worker_old}
-use Rattle.interleavings.proofs.Ranging.{alike}
 use Rattle.interleavings.proofs.Runs.{journal_more, run_more}
 use Rattle.interleavings.proofs.Sights.{block_more, seen_more, seen_there, set_by}
 
@@ -89,34 +94,35 @@ choose false x y same = refl
 -- were seen.
 pub claim_same : (s : SetupParts) (journal journal' : List JournalCall) (blocks blocks' : Blocks)
     (seen seen' : ℕ → Bool) (k : ℕ)
-    → claim_rows s (entries_of s journal) k ≡ claim_rows s (entries_of s journal') k
+    → AreRows s.device.rate.frames (claim_rows s (entries_of s journal) k)
+    (claim_rows s (entries_of s journal') k)
     → ((input : ℕ) → input < length s.device.inputs → seen input ≡ seen' input)
     → ((input : ℕ) → seen input ≡ true
     → blocks input (tick_of_claim s k) ≡ blocks' input (tick_of_claim s k))
     → claim_with s journal blocks k (seen_flags s journal seen k)
     ≡ claim_with s journal' blocks' k (seen_flags s journal' seen' k)
 claim_same s journal journal' blocks blocks' seen seen' k same sights there =
-    let t = tick_of_claim s k in
     let n = length s.device.inputs in
-    let rows = claim_rows s (entries_of s journal) k in
-    let found = flags_with s rows seen in
-    let found' = flags_with s rows seen' in
-    let blocks_same : found_block blocks found t ≡ found_block blocks' found t =
-    alike (λ (input : ℕ). choose (flag_of found input) (blocks input t) (blocks' input t)
-    (λ set. there input (flag_seen s rows seen input set))) in
-    let flags_same : found ≡ found' =
-    map_same_below (λ input. is_named s.device.rate.frames rows input && seen input)
-    (λ input. is_named s.device.rate.frames rows input && seen' input) n
-    (λ i lt. ap (λ (b : Bool). is_named s.device.rate.frames rows i && b) (sights i lt)) in
-    ap (λ (tb : ℕ → Option (List ℤ)). claim_from s rows tb found k) blocks_same
-    ∙ ap (λ (f : List Bool). claim_from s rows (found_block blocks' f t) f k) flags_same
-    ∙ ap (λ (r : ℕ → List Cell).
-    claim_from s r (found_block blocks' (flags_with s r seen') t) (flags_with s r seen') k) same
+    let es = entries_of s journal in
+    let es' = entries_of s journal' in
+    let flags_same : seen_flags s journal seen k ≡ seen_flags s journal' seen' k =
+    map_same_below (λ input. names_by s es k input && seen input)
+    (λ input. names_by s es' k input && seen' input) n
+    (λ i lt. ap (λ (b : Bool). b && seen i) (names_by-same s es es' k same i)
+    ∙ ap (λ (b : Bool). names_by s es' k i && b) (sights i lt)) in
+    let text =
+    packet_by-same s es es' blocks blocks' (seen_flags s journal seen k)
+    (seen_flags s journal' seen' k) k same
+    (λ input named. ap (λ (f : List Bool). flag_of f input) flags_same)
+    (λ input named set. there input (flag_seen s (claim_rows s es k) seen input set)) in
+    ap (claim_item k (seen_flags s journal seen k)) text
+    ∙ ap (λ (f : List Bool).
+    claim_item k f (packet_by s es' blocks' (seen_flags s journal' seen' k) k)) flags_same
 
 -- ---- the rows of a claim that was made
 
 -- the calls of a run are a legal journal
-pub run_journal : (s : SetupParts) (ticks : ℕ) (events : List Taken) → IsRun s ticks events
+pub run_journal : (s : SetupParts) (ticks : ℕ) (events : List AnsweredEvent) → IsRun s ticks events
     → IsLegalJournal s (claims_in events) (journal_in s events)
 run_journal s ticks events run =
     given_legal s [] 0 (given_in events) (journal_in s events) (claims_in events) (no_calls s 0)
@@ -133,7 +139,7 @@ late_call s before client claims request (Some call) e =
     All-push (λ (c : JournalCall). claims ≤ c.at) [] call
     (All-nil (λ (c : JournalCall). claims ≤ c.at)) (omega (arith, is.at_is))
 
-late_calls : (s : SetupParts) (ticks : ℕ) (before : List Taken) (event : Event)
+late_calls : (s : SetupParts) (ticks : ℕ) (before : List AnsweredEvent) (event : Event)
     → All (λ c. claims_in before ≤ c.at)
     (option_to_list (call_in s (journal_in s before) event (answer_of s ticks before event)))
 late_calls s ticks before (Claim worker) = All-nil (λ (c : JournalCall). claims_in before ≤ c.at)
@@ -149,14 +155,14 @@ late_calls s ticks before (Call client request) =
     late_call s journal client claims request
     (call_of s journal client claims request (reply_of s journal claims request)) refl
 
-pub rows_stay : (s : SetupParts) (ticks : ℕ) (before : List Taken) (event : Event) (k : ℕ)
-    → HasOutputs s → IsRun s ticks before
+pub rows_stay : (s : SetupParts) (ticks : ℕ) (before : List AnsweredEvent) (event : Event) (k : ℕ)
+    → HasShape s → IsRun s ticks before
     → k < claims_in before
-    → claim_rows s (entries_of s (journal_in s (before ++ taken_by s ticks before event ∷ []))) k
-    ≡ claim_rows s (entries_of s (journal_in s before)) k
-rows_stay s ticks before event k some run lt =
+    → AreRows s.device.rate.frames (claim_rows s (entries_of s (journal_in s before)) k)
+    (claim_rows s (entries_of s (journal_in s (before ++ taken_by s ticks before event ∷ []))) k)
+rows_stay s ticks before event k some run lt f within =
     let t = taken_by s ticks before event in
-    let after : List Taken = before ++ t ∷ [] in
+    let after : List AnsweredEvent = before ++ t ∷ [] in
     let journal = journal_in s before in
     let calls = option_to_list (call_in s journal t.event t.answer) in
     let o = output_of_claim s k in
@@ -169,14 +175,16 @@ rows_stay s ticks before event k some run lt =
     let behind : All (λ c. k < c.at) (drop (length journal) (journal_in s after)) =
     rw rest (λ i d within. let at = late i d within in omega (arith, at, lt)) in
     let legal = run_journal s ticks after (run_more s ticks before t run refl) in
-    let same = claimed s (claims_in after) (journal_in s after) o k (length journal)
-    some legal behind in
-    ap {B = ℕ → List Cell} (λ (r : Option (List Cell)) (frame : ℕ). unwrap_or r [])
-    (same ∙ ap (λ (j : List JournalCall). selected (entries_of s j) o (tick_of_claim s k)) front)
+    let same = claimed s (claims_in after) (journal_in s after) o k (length journal) f
+    some.0 legal behind (omega (arith, within, some.1)) in
+    sym (ap (λ (r : Option (List Cell)). unwrap_or r [])
+    (same
+    ∙ ap (λ (j : List JournalCall). selected (entries_of s j) o (frame_key (tick_of_claim s k) f))
+    front))
 
 -- ---- a claim that was made
 
-pub block_same : (before : List Taken) (t : Taken) (input tick : ℕ)
+pub block_same : (before : List AnsweredEvent) (t : AnsweredEvent) (input tick : ℕ)
     → is_some (block_in before input tick) ≡ true
     → block_in before input tick ≡ block_in (before ++ t ∷ []) input tick
 block_same before t input tick there =
@@ -187,8 +195,8 @@ pub or_end : (a b : Bool) → b ≡ false → (a || b) ≡ a
 or_end true b h = refl
 or_end false b h = h
 
-pub claim_stays : (s : SetupParts) (ticks : ℕ) (before : List Taken) (event : Event) (k : ℕ)
-    → HasOutputs s → IsRun s ticks before
+pub claim_stays : (s : SetupParts) (ticks : ℕ) (before : List AnsweredEvent) (event : Event) (k : ℕ)
+    → HasShape s → IsRun s ticks before
     → k < claims_in before
     → ((input : ℕ)
     → sees_by s (worker_of before k) k input
@@ -199,12 +207,12 @@ pub claim_stays : (s : SetupParts) (ticks : ℕ) (before : List Taken) (event : 
     (before ++ taken_by s ticks before event ∷ []) k
 claim_stays s ticks before event k some run lt unseen =
     let t = taken_by s ticks before event in
-    let after : List Taken = before ++ t ∷ [] in
+    let after : List AnsweredEvent = before ++ t ∷ [] in
     let w = worker_of before k in
     let worker : worker_of after k ≡ w = worker_old before t k (are_drawn s ticks before run) lt in
     claim_same s (journal_in s before) (journal_in s after) (block_in before) (block_in after)
     (has_seen s before k) (has_seen s after k) k
-    (sym (rows_stay s ticks before event k some run lt))
+    (rows_stay s ticks before event k some run lt)
     (λ input within.
     sym (ap (λ (x : ℕ). seen_from s x k input None after) worker
     ∙ seen_more s w k input None before t
@@ -216,7 +224,7 @@ claim_stays s ticks before event k some run lt unseen =
 -- ---- which looks a claim sees
 
 -- a look that sees nothing
-pub unseen : (s : SetupParts) (worker k input : ℕ) (latest : Option ℕ) (t : Taken)
+pub unseen : (s : SetupParts) (worker k input : ℕ) (latest : Option ℕ) (t : AnsweredEvent)
     → saw t.answer ≡ false
     → sees_by s worker k input latest t ≡ false
 unseen s worker k input latest t none =
@@ -224,7 +232,7 @@ unseen s worker k input latest t none =
     and_right (looks worker input t.event) (saw t.answer && is_for s k latest) inner
 
 -- a look of a worker is for no claim but its latest
-pub look_elsewhere : (s : SetupParts) (before : List Taken) (worker at k j input : ℕ)
+pub look_elsewhere : (s : SetupParts) (before : List AnsweredEvent) (worker at k j input : ℕ)
     (answer : Answer) → AreDrawn before
     → latest_of worker before ≡ Some j
     → k < claims_in before → (k ≡ j → ⊥)

@@ -30,7 +30,7 @@ use Rattle.interleavings.specs.declared.events.Answer.{Answer}
 use Rattle.interleavings.specs.declared.events.Answer.TheVariants.{Claimed, Over}
 use Rattle.interleavings.specs.declared.events.Event.{Event}
 use Rattle.interleavings.specs.declared.events.Event.TheVariants.{Claim, Look, Set, Close, Call}
-use Rattle.interleavings.specs.declared.events.Taken.{Taken}
+use Rattle.interleavings.specs.declared.events.AnsweredEvent.{AnsweredEvent}
 use Rattle.interleavings.specs.declared.facts.Facts.{Facts}
 use Rattle.interleavings.specs.declared.facts.Session.{Session}
 use Rattle.interleavings.specs.declared.facts.Sight.{Sight}
@@ -49,7 +49,8 @@ use Rattle.interleavings.proofs.Staying.{run_journal}
 
 -- ---- runs of events
 
-more_from : (s : SetupParts) (ticks : ℕ) (before : List Taken) (events : List Event) (event : Event)
+more_from : (s : SetupParts) (ticks : ℕ) (before : List AnsweredEvent) (events : List Event)
+    (event : Event)
     → run_from s ticks before (events ++ event ∷ []) ≡ run_from s ticks before events
     ++ taken_by s ticks (run_from s ticks before events) event ∷ []
 more_from s ticks before [] event = refl
@@ -62,7 +63,7 @@ pub run_of_more : (s : SetupParts) (ticks : ℕ) (events : List Event) (event : 
 unfolding run_of
 run_of_more s ticks events event = more_from s ticks [] events event
 
-is_run_from : (s : SetupParts) (ticks : ℕ) (before : List Taken) (events : List Event)
+is_run_from : (s : SetupParts) (ticks : ℕ) (before : List AnsweredEvent) (events : List Event)
     → IsRun s ticks before
     → IsRun s ticks (run_from s ticks before events)
 is_run_from s ticks before [] run = run
@@ -79,13 +80,13 @@ pub run_of_none : (s : SetupParts) (ticks : ℕ) → run_of s ticks [] ≡ []
 unfolding run_of
 run_of_none s ticks = refl
 
-events_from : (s : SetupParts) (ticks : ℕ) (before : List Taken) (events : List Event)
+events_from : (s : SetupParts) (ticks : ℕ) (before : List AnsweredEvent) (events : List Event)
     → map (λ t. t.event) (run_from s ticks before events) ≡ map (λ t. t.event) before ++ events
 events_from s ticks before [] = sym (append-nil (map (λ t. t.event) before))
 events_from s ticks before (e ∷ events) =
     events_from s ticks (before ++ taken_by s ticks before e ∷ []) events
     ∙ ap (λ (z : List Event). z ++ events)
-    (map-append (λ (t : Taken). t.event) before (taken_by s ticks before e ∷ []))
+    (map-append (λ (t : AnsweredEvent). t.event) before (taken_by s ticks before e ∷ []))
     ∙ append_assoc (map (λ t. t.event) before) (e ∷ []) events
 
 -- the events of the run of these are these
@@ -105,7 +106,7 @@ passing s ticks events is =
 
 -- ---- numbers of claims
 
-by_room : (s : SetupParts) (ticks : ℕ) (before : List Taken) (worker : ℕ) (b : Bool)
+by_room : (s : SetupParts) (ticks : ℕ) (before : List AnsweredEvent) (worker : ℕ) (b : Bool)
     → ltb (claims_in before) (ticks * length s.device.outputs) ≡ b
     → claims_in before ≤ ticks * length s.device.outputs
     → claims_in (before ++ taken (Claim worker)
@@ -116,7 +117,7 @@ by_room s ticks before worker true room le =
 by_room s ticks before worker false room le =
     omega (arith, le, claims_kept before (taken (Claim worker) Over) refl)
 
-more_within : (s : SetupParts) (ticks : ℕ) (before : List Taken) (event : Event)
+more_within : (s : SetupParts) (ticks : ℕ) (before : List AnsweredEvent) (event : Event)
     → claims_in before ≤ ticks * length s.device.outputs
     → claims_in (before ++ taken_by s ticks before event ∷ []) ≤ ticks * length s.device.outputs
 more_within s ticks before (Claim worker) le =
@@ -136,7 +137,7 @@ more_within s ticks before (Close input upto) le =
 more_within s ticks before (Call client request) le =
     omega (arith, le, claims_kept before (taken_by s ticks before (Call client request)) refl)
 
-pub within : (s : SetupParts) (ticks : ℕ) (events : List Taken) → IsRun s ticks events
+pub within : (s : SetupParts) (ticks : ℕ) (events : List AnsweredEvent) → IsRun s ticks events
     → claims_in events ≤ ticks * length s.device.outputs
 within s ticks events run =
     run_by s ticks (λ t. claims_in t ≤ ticks * length s.device.outputs) (omega arith)
@@ -184,7 +185,7 @@ event_frames s workers input tick (Set of at block) range =
 event_frames s workers input tick (Close of upto) range = tt
 event_frames s workers input tick (Call client request) range = tt
 
-run_frames : (s : SetupParts) (workers : ℕ) (events : List Taken) (input tick : ℕ)
+run_frames : (s : SetupParts) (workers : ℕ) (events : List AnsweredEvent) (input tick : ℕ)
     → AllByRecursion (λ t. IsInRange s workers t.event) events
     → HasFrames (block_in events input tick) (channels_of s.device.inputs input)
     s.device.rate.frames
@@ -197,7 +198,7 @@ run_frames s workers (t ∷ events) input tick all =
     (event_frames s workers input tick t.event all.0))
     (run_frames s workers events input tick all.1)
 
-all_events : (P : Event → Type 0) (events : List Taken)
+all_events : (P : Event → Type 0) (events : List AnsweredEvent)
     → AllByRecursion P (map (λ t. t.event) events) → AllByRecursion (λ t. P t.event) events
 all_events P [] all = tt
 all_events P (t ∷ events) all = (all.0, all_events P events all.1)
@@ -212,19 +213,21 @@ in_range s ticks workers events range =
 
 -- ---- what is kept, place by place
 
-pub sights_long : (s : SetupParts) (workers : ℕ) (events : List Taken) (facts : Facts)
+pub sights_long : (s : SetupParts) (workers : ℕ) (events : List AnsweredEvent) (facts : Facts)
     → IsReady s workers events facts
     → length facts.sights ≡ workers
 sights_long s workers events facts ready =
     ap length ready.sights ∙ length-map-range_with_len (sight_in s events) 0 workers
 
-pub sight_there : (s : SetupParts) (workers : ℕ) (events : List Taken) (facts : Facts) (worker : ℕ)
+pub sight_there : (s : SetupParts) (workers : ℕ) (events : List AnsweredEvent) (facts : Facts)
+    (worker : ℕ)
     → IsReady s workers events facts
     → worker < workers → worker < length facts.sights
 sight_there s workers events facts worker ready lt =
     omega (arith, lt, sights_long s workers events facts ready)
 
-pub sight_is : (s : SetupParts) (workers : ℕ) (events : List Taken) (facts : Facts) (worker : ℕ)
+pub sight_is : (s : SetupParts) (workers : ℕ) (events : List AnsweredEvent) (facts : Facts)
+    (worker : ℕ)
     (x : Sight) → IsReady s workers events facts
     → worker < workers
     → slice_get facts.sights worker ≡ Some x → x ≡ sight_in s events worker
@@ -233,7 +236,8 @@ sight_is s workers events facts worker x ready lt is =
     ∙ ap (λ (z : List Sight). get_or z worker x) ready.sights
     ∙ get_or-map-range_with_len (sight_in s events) 0 workers worker worker x lt (zero-add worker)
 
-pub closing_there : (s : SetupParts) (workers : ℕ) (events : List Taken) (facts : Facts) (input : ℕ)
+pub closing_there : (s : SetupParts) (workers : ℕ) (events : List AnsweredEvent) (facts : Facts)
+    (input : ℕ)
     → IsReady s workers events facts
     → input < length s.device.inputs
     → input < length facts.closings
@@ -245,7 +249,8 @@ closing_there s workers events facts input ready lt =
           ∙ length-map-range_with_len (closing_in events) 0 (length s.device.inputs),
     )
 
-pub closing_is : (s : SetupParts) (workers : ℕ) (events : List Taken) (facts : Facts) (input : ℕ)
+pub closing_is : (s : SetupParts) (workers : ℕ) (events : List AnsweredEvent) (facts : Facts)
+    (input : ℕ)
     → IsReady s workers events facts
     → input < length s.device.inputs
     → get_or facts.closings input 0 ≡ closing_in events input
@@ -254,7 +259,7 @@ closing_is s workers events facts input ready lt =
     ∙ get_or-map-range_with_len (closing_in events) 0 (length s.device.inputs) input input 0 lt
     (zero-add input)
 
-pub claims_long : (s : SetupParts) (workers : ℕ) (events : List Taken) (facts : Facts)
+pub claims_long : (s : SetupParts) (workers : ℕ) (events : List AnsweredEvent) (facts : Facts)
     → IsReady s workers events facts
     → length facts.history.claims ≡ claims_in events
 claims_long s workers events facts ready =
@@ -265,7 +270,7 @@ ordered_fold : (xs ys : List ReplyItem) → AreInOrder xs → AreInOrder (fold p
 ordered_fold xs [] order = order
 ordered_fold xs (y ∷ ys) order = ordered_fold (put xs y) ys (put_ordered xs y order)
 
-pub replies_ordered : (s : SetupParts) (workers : ℕ) (events : List Taken) (facts : Facts)
+pub replies_ordered : (s : SetupParts) (workers : ℕ) (events : List AnsweredEvent) (facts : Facts)
     → IsReady s workers events facts
     → AreInOrder facts.history.replies
 replies_ordered s workers events facts ready =
@@ -294,7 +299,7 @@ core_more c events event old new core range ready = record {
   setup = core.setup;
   few = core.few;
   range = All-push (IsInRange c.setup c.workers) events event core.range range;
-  ready = subst (λ (t : List Taken). IsReady c.setup c.workers t new)
+  ready = subst (λ (t : List AnsweredEvent). IsReady c.setup c.workers t new)
       (sym (run_of_more c.setup c.ticks events event)) ready;
 }
 
@@ -309,7 +314,7 @@ start_core c facts is few desk sights inputs blocks closings history = record {
   setup = is;
   few = few;
   range = All-nil (IsInRange c.setup c.workers);
-  ready = subst (λ (t : List Taken). IsReady c.setup c.workers t facts)
+  ready = subst (λ (t : List AnsweredEvent). IsReady c.setup c.workers t facts)
       (sym (run_of_none c.setup c.ticks)) (record {
         desk = desk;
         sights = sights;

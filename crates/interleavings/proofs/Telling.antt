@@ -1,7 +1,7 @@
 -- What is said to asks of any kind by the answers of a book stands in a legal history.
-use Rattle.std.proofs.Common.{◌≡◌, ℕ, ◌+◌, ◌≤◌, Bool, true, false, eqb, List, [], ◌∷◌, take, Option}
+use Rattle.std.proofs.Common.{◌≡◌, ℕ, ◌≤◌, Bool, true, false, eqb, List, [], ◌∷◌, take, Option}
 use Rattle.std.proofs.Common.{Some, None, inl, inr, refl, sym, ap, subst, ◌∙◌, arith}
-use Rattle.std.specs.Prelude.{IfSome, ◌&&◌, cond, map, slice_get}
+use Rattle.std.specs.Prelude.{IfSome, ◌&&◌, ◌||◌, map, slice_get}
 use Rattle.std.specs.List.{AllByRecursion}
 use Rattle.std.proofs.lemmas.Bool.{cases_Bool, eqb-true}
 use Rattle.map_entry.specs.Setup.{SetupParts}
@@ -18,12 +18,12 @@ use Rattle.book_words.specs.History.{AreInOrder, replies_to}
 use Rattle.plain_book.proofs.Giving.{given_up}
 use Rattle.plain_book.proofs.Ordering.{in_order_keeps}
 use Rattle.plain_book.proofs.Prefixes.{no_calls}
-use Rattle.interleavings.specs.Legal.{AreReplies, AreTold, IsAskedReply, IsPlace, IsReplyTo}
-use Rattle.interleavings.specs.Legal.{StandsThere, accepted_at, accepts, asks_itself, calls_made}
-use Rattle.interleavings.specs.Legal.{first_floor, next_floor, reply_at, says_reply}
+use Rattle.interleavings.specs.Legal.{AreCallsReplied, AreReplies, AreTold, IsAskedReply, IsPlace}
+use Rattle.interleavings.specs.Legal.{IsReplyTo, StandsThere, accepted_at, accepts, asks_itself}
+use Rattle.interleavings.specs.Legal.{first_floor, has_accepted, next_floor, reply_at, says_reply}
 use Rattle.interleavings.specs.Told.{AreSaid, IsSaidBy, IsSaidFor, given_to, requests_of}
-use Rattle.interleavings.proofs.Places.{GoFrom, IsAnswerAt, answers_at, go_from, is_maker, makers}
-use Rattle.interleavings.proofs.Places.{one_maker}
+use Rattle.interleavings.proofs.Places.{GoFrom, IsAnswerAt, answers_at, go_from, has_maker}
+use Rattle.interleavings.proofs.Places.{is_maker, its_maker}
 
 -- ---- a client's replies
 
@@ -62,14 +62,19 @@ asked_told s journal claims client floor say request g item at own from is =
     let made : item.stamp.claims ≡ g.stamp.claims =
     ap (λ (place : Stamp). place.claims) is.stamp_is in
     record {
-      place = subst (IsPlace journal claims) (sym is.stamp_is) at.place;
-      calls_up = omega (arith, from.0, calls);
-      claims_up = omega (arith, from.1, made);
-      said_is = ap (λ (reply : Reply). say (Some reply))
-          (same_reply s journal claims say request g item at is) ∙ is.said_is;
-      call = subst (λ (place : Stamp). IsCallThere s journal client place request) (sym is.stamp_is)
-          (subst (IsCallThere s journal client g.stamp) is.asks
-          (subst (λ (of : ℕ). IsCallThere s journal of g.stamp g.request) own at.call));
+      stands = record {
+        is_place = subst (IsPlace journal claims) (sym is.stamp_is) at.place;
+        calls_up = omega (arith, from.0, calls);
+        claims_up = omega (arith, from.1, made);
+      };
+      reply = record {
+        said_is = ap (λ (reply : Reply). say (Some reply))
+            (same_reply s journal claims say request g item at is) ∙ is.said_is;
+        call = subst (λ (place : Stamp). IsCallThere s journal client place request)
+            (sym is.stamp_is)
+            (subst (IsCallThere s journal client g.stamp) is.asks
+            (subst (λ (of : ℕ). IsCallThere s journal of g.stamp g.request) own at.call));
+      };
     }
 
 one_told : {A : Type 0} (s : SetupParts) (asked : A → Option Request)
@@ -125,9 +130,9 @@ abbrev RestMade : {A : Type 0} → SetupParts → (A → Option Request)
 RestMade s asked says journal claims number asks =
     (floor : Stamp) (gs : List Given) (items : List ReplyItem)
     → AllByRecursion (IsAnswerAt s journal claims) gs → AreSaid asked says floor asks gs items
-    → calls_made s asked journal number asks items ≡ makers number gs
+    → has_accepted s asked journal number asks items ≡ has_maker number gs
 
-no_call : (b : Bool) → cond {A = ℕ} (b && false) 1 0 ≡ 0
+no_call : (b : Bool) → (b && false) ≡ false
 no_call true = refl
 no_call false = refl
 
@@ -138,10 +143,11 @@ one_made : {A : Type 0} (s : SetupParts) (asked : A → Option Request)
     → (floor : Stamp) (gs : List Given) (item : ReplyItem) (items : List ReplyItem)
     → AllByRecursion (IsAnswerAt s journal claims) gs
     → IsSaidBy floor say o gs item (λ next rest. AreSaid asked says next asks rest items)
-    → cond {A = ℕ} (eqb item.stamp.calls number && accepted_at s journal item.stamp o) 1
-    0 + calls_made s asked journal number asks items ≡ makers number gs
+    → ((eqb item.stamp.calls number && accepted_at s journal item.stamp o)
+    || has_accepted s asked journal number asks items) ≡ has_maker number gs
 one_made s asked says journal claims number asks say None rest floor gs item items at said =
-    omega (arith, no_call (eqb item.stamp.calls number), rest floor gs items at said.1)
+    ap (λ (b : Bool). b || has_accepted s asked journal number asks items)
+    (no_call (eqb item.stamp.calls number)) ∙ rest floor gs items at said.1
 one_made s asked says journal claims number asks say (Some request) rest floor [] item items at
     said = absurd said
 one_made s asked says journal claims number asks say (Some request) rest floor (g ∷ gs)
@@ -152,8 +158,8 @@ one_made s asked says journal claims number asks say (Some request) rest floor (
     (reply_at s journal item.stamp request)) said.0.stamp_is
     ∙ ap (λ (reply : Reply). eqb g.stamp.calls number && accepts reply)
     (same_reply s journal claims say request g item at.0 said.0) in
-    ap (λ (b : Bool). cond {A = ℕ} b 1 0 + calls_made s asked journal number asks items) same
-    ∙ ap (λ (n : ℕ). cond {A = ℕ} (is_maker number g) 1 0 + n)
+    ap (λ (b : Bool). b || has_accepted s asked journal number asks items) same
+    ∙ ap (λ (b : Bool). is_maker number g || b)
     (rest (next_floor g.stamp (accepts g.reply)) gs items at.1 said.1)
 
 all_made : {A : Type 0} (s : SetupParts) (asked : A → Option Request)
@@ -185,16 +191,19 @@ owned client (g ∷ gs) = elim (cases_Bool (eqb g.client client)) [
   | inr other ↦ rw other (owned client gs)
 ]
 
--- what is said to each client's asks by a book's answers, in the order of a history, are legal
--- replies
+-- what is said to each client's asks by a book's answers
+abbrev pub AreEachSaid : {A : Type 0} → (A → Option Request) → (A → Option Reply → Option Said)
+    → (ℕ → List A) → List Given → List ReplyItem → Type 0
+AreEachSaid asked says asks given items =
+    (client : ℕ) → AreSaid asked says first_floor (asks client) (given_to client given)
+    (replies_to client items)
+
+-- in the order of a history, these are legal replies
 pub told_replies : {A : Type 0} (s : SetupParts) (asked : A → Option Request)
     (says : A → Option Reply → Option Said) (journal : List JournalCall) (claims : ℕ)
     (asks : ℕ → List A) (given : List Given) (items : List ReplyItem)
-    → AreGiven s [] 0 given journal claims
-    → ((client : ℕ)
-    → AreSaid asked says first_floor (asks client) (given_to client given)
-    (replies_to client items)) → AreInOrder items
-    → AreReplies s asked says StandsThere journal claims asks items
+    → AreGiven s [] 0 given journal claims → AreEachSaid asked says asks given items
+    → AreInOrder items → AreReplies s asked says StandsThere journal claims asks items
 told_replies s asked says journal claims asks given items are said order =
     let at = answers_at s [] 0 given journal claims (no_calls s 0) are in
     record {
@@ -203,13 +212,21 @@ told_replies s asked says journal claims asks given items are said order =
           (filtered (IsAnswerAt s journal claims) client given at) (owned client given)
           (go_from s [] 0 given journal claims are client first_floor (omega arith) (omega arith))
           (said client);
-      once = λ number call there client.
-          all_made s asked says journal claims number (asks client) first_floor
-          (given_to client given) (replies_to client items)
-          (filtered (IsAnswerAt s journal claims) client given at) (said client)
-          ∙ one_maker s [] 0 given journal claims are number client call (omega arith) there;
       order = order;
     }
+
+-- and each call was accepted by one of them
+pub told_calls : {A : Type 0} (s : SetupParts) (asked : A → Option Request)
+    (says : A → Option Reply → Option Said) (journal : List JournalCall) (claims : ℕ)
+    (asks : ℕ → List A) (given : List Given) (items : List ReplyItem)
+    → AreGiven s [] 0 given journal claims → AreEachSaid asked says asks given items
+    → AreCallsReplied s asked journal asks items
+told_calls s asked says journal claims asks given items are said number call there =
+    let at = answers_at s [] 0 given journal claims (no_calls s 0) are in
+    all_made s asked says journal claims number (asks call.client) first_floor
+    (given_to call.client given) (replies_to call.client items)
+    (filtered (IsAnswerAt s journal claims) call.client given at) (said call.client)
+    ∙ its_maker s [] 0 given journal claims are number call (omega arith) there
 
 -- ---- plain requests
 
@@ -230,21 +247,38 @@ replies_given_to client (g ∷ gs) = elim (cases_Bool (eqb g.client client)) [
   | inr other ↦ rw other (replies_given_to client gs)
 ]
 
--- the book's answers in the order of a history are legal replies to plain requests
-pub plain_replies : (s : SetupParts) (journal : List JournalCall) (claims : ℕ)
-    (asks : ℕ → List Request) (given : List Given)
-    → AreGiven s [] 0 given journal claims → ((client : ℕ) → requests_of given client ≡ asks client)
-    → AreReplies s asks_itself says_reply StandsThere journal claims asks (replies_of given)
-plain_replies s journal claims asks given are whole =
+-- the book's answers in the order of a history say so to plain requests
+plain_each : (s : SetupParts) (journal : List JournalCall) (claims : ℕ) (asks : ℕ → List Request)
+    (given : List Given) → AreGiven s [] 0 given journal claims
+    → ((client : ℕ) → requests_of given client ≡ asks client)
+    → AreEachSaid asks_itself says_reply asks given (replies_of given)
+plain_each s journal claims asks given are whole client =
     let sorted =
     in_order_keeps (map given_reply given) (given_up s [] 0 given journal claims are).1 in
-    told_replies s asks_itself says_reply journal claims asks given (replies_of given) are
-    (λ client. subst
+    subst
     (λ (items : List ReplyItem).
     AreSaid asks_itself says_reply first_floor (asks client) (given_to client given) items)
     (sym (sorted.own client ∙ replies_given_to client given))
     (subst (λ (requests : List Request).
     AreSaid asks_itself says_reply first_floor requests (given_to client given)
     (map given_reply (given_to client given))) (whole client)
-    (plain_said first_floor (given_to client given))))
-    sorted.ordered
+    (plain_said first_floor (given_to client given)))
+
+-- so they are legal replies to them
+pub plain_replies : (s : SetupParts) (journal : List JournalCall) (claims : ℕ)
+    (asks : ℕ → List Request) (given : List Given)
+    → AreGiven s [] 0 given journal claims → ((client : ℕ) → requests_of given client ≡ asks client)
+    → AreReplies s asks_itself says_reply StandsThere journal claims asks (replies_of given)
+plain_replies s journal claims asks given are whole =
+    told_replies s asks_itself says_reply journal claims asks given (replies_of given) are
+    (plain_each s journal claims asks given are whole)
+    (in_order_keeps (map given_reply given) (given_up s [] 0 given journal claims are).1).ordered
+
+-- which accepted each call
+pub plain_calls : (s : SetupParts) (journal : List JournalCall) (claims : ℕ)
+    (asks : ℕ → List Request) (given : List Given)
+    → AreGiven s [] 0 given journal claims → ((client : ℕ) → requests_of given client ≡ asks client)
+    → AreCallsReplied s asks_itself journal asks (replies_of given)
+plain_calls s journal claims asks given are whole =
+    told_calls s asks_itself says_reply journal claims asks given (replies_of given) are
+    (plain_each s journal claims asks given are whole)

@@ -22,7 +22,7 @@ use Rattle.book_words.specs.History.{history_of, in_order}
 use Rattle.plain_book.specs.Journal.{entries_of}
 use Rattle.plain_book.proofs.Giving.{given_legal}
 use Rattle.plain_book.proofs.Prefixes.{no_calls}
-use Rattle.interleavings.specs.declared.events.Taken.{Taken}
+use Rattle.interleavings.specs.declared.events.AnsweredEvent.{AnsweredEvent}
 use Rattle.interleavings.specs.Events.{IsRun, block_in, claims_in, journal_in}
 use Rattle.interleavings.specs.Legal.{AreClaims, Form, IsClaim, IsFreeHistory, IsLegalHistory}
 use Rattle.interleavings.specs.Legal.{Standing, StandsThere, asks_itself, closed_form, free_form}
@@ -31,7 +31,7 @@ use Rattle.interleavings.specs.Run.{asks_in, claim_in, has_seen, history_in, rep
 use Rattle.interleavings.specs.Told.{requests_of}
 use Rattle.interleavings.proofs.Answering.{asks_are, given_in, replies_are, run_given}
 use Rattle.interleavings.proofs.Sights.{run_claim}
-use Rattle.interleavings.proofs.Telling.{plain_replies}
+use Rattle.interleavings.proofs.Telling.{plain_calls, plain_replies}
 
 map_at : {X : Type 0} (f : ℕ → X) (n k : ℕ) (x : X)
     → slice_get (map f (range_with_len 0 n)) k ≡ Some x → f k ≡ x
@@ -69,10 +69,11 @@ given_history s claims blocks Allows asks given journal items replies are whole 
       journal = given_legal s [] 0 given journal claims (no_calls s 0) are;
       claimed = claimed;
       replied = plain_replies s journal claims asks given are whole;
+      calls = plain_calls s journal claims asks given are whole;
     })
 
 -- whatever happens, in whatever order, the history of what was answered is legal
-pub run_legal : (s : SetupParts) (ticks : ℕ) (events : List Taken) → IsRun s ticks events
+pub run_legal : (s : SetupParts) (ticks : ℕ) (events : List AnsweredEvent) → IsRun s ticks events
     → IsFreeHistory s (claims_in events) (block_in events) (has_seen s events) (asks_in events)
     (history_in s events)
 unfolding history_in
@@ -104,6 +105,7 @@ other_form s asked says Stands claims blocks Allows Others asks h weaker is = re
         record { number = its.number; flags = weaker k claim its.flags; packet = its.packet };
   };
   replied = is.replied;
+  calls = is.calls;
 }
 
 -- a history that is legal in closed form is legal in free form, whatever of the blocks was seen

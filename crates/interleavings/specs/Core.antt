@@ -23,7 +23,7 @@ use Rattle.plain_book.specs.Time.{tick_of_claim}
 use Rattle.interleavings.specs.declared.events.Answer.{Answer}
 use Rattle.interleavings.specs.declared.events.Event.{Event}
 use Rattle.interleavings.specs.declared.events.Event.TheVariants.{Claim, Look, Set, Close, Call}
-use Rattle.interleavings.specs.declared.events.Taken.{Taken}
+use Rattle.interleavings.specs.declared.events.AnsweredEvent.{AnsweredEvent}
 use Rattle.interleavings.specs.declared.facts.Facts.{Facts}
 use Rattle.interleavings.specs.declared.facts.Session.{Session}
 use Rattle.interleavings.specs.declared.facts.Sight.{Sight}
@@ -39,10 +39,10 @@ pub record CoreParts : Type 0 where
   pub setup : SetupParts
   pub ticks : ℕ
   pub workers : ℕ
-  pub taken : List Taken
+  pub taken : List AnsweredEvent
 
 -- the core of these parts
-abbrev pub core_parts : SetupParts → ℕ → ℕ → List Taken → CoreParts
+abbrev pub core_parts : SetupParts → ℕ → ℕ → List AnsweredEvent → CoreParts
 core_parts setup ticks workers taken =
     record {
       setup = setup;
@@ -76,12 +76,12 @@ desk_after d client request =
 -- ---- what workers saw
 
 -- whether a worker saw the block of an input for its latest claim
-abbrev pub sees : SetupParts → List Taken → ℕ → ℕ → Bool
+abbrev pub sees : SetupParts → List AnsweredEvent → ℕ → ℕ → Bool
 sees s taken worker input =
     option_map_or (λ k. seen_from s worker k input None taken) (latest_of worker taken) false
 
 -- a worker's latest claim, and what it saw for that claim
-abbrev pub sight_in : SetupParts → List Taken → ℕ → Sight
+abbrev pub sight_in : SetupParts → List AnsweredEvent → ℕ → Sight
 sight_in s taken worker =
     record {
       latest = latest_of worker taken;
@@ -126,7 +126,7 @@ upto_by input (Close of upto) = if eqb of input then upto else 0
 upto_by input (Call client request) = 0
 
 -- the number below which an input's ticks are closed
-abbrev pub closing_in : List Taken → ℕ → ℕ
+abbrev pub closing_in : List AnsweredEvent → ℕ → ℕ
 closing_in [] input = 0
 closing_in (t ∷ taken) input = max (upto_by input t.event) (closing_in taken input)
 
@@ -145,7 +145,7 @@ pub record CanShow (c : Session) (facts : Facts) : Type 0 where
 -- ---- what is kept
 
 -- it tells the same as the events with their answers
-pub record IsReady (s : SetupParts) (workers : ℕ) (taken : List Taken) (facts : Facts)
+pub record IsReady (s : SetupParts) (workers : ℕ) (taken : List AnsweredEvent) (facts : Facts)
     : Type 0 where
   pub desk : facts.desk ≡ desk_parts s (claims_in taken) (journal_in s taken)
   pub sights : facts.sights ≡ map (sight_in s taken) (range_with_len 0 workers)
@@ -155,7 +155,7 @@ pub record IsReady (s : SetupParts) (workers : ℕ) (taken : List Taken) (facts 
   pub history : facts.history ≡ history_in s taken
 
 -- the events of a session with their answers
-abbrev pub taken_in : Session → List Event → List Taken
+abbrev pub taken_in : Session → List Event → List AnsweredEvent
 taken_in c events = run_of c.setup c.ticks events
 
 -- the answer to one more event

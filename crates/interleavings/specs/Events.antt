@@ -19,10 +19,10 @@ use Rattle.interleavings.specs.declared.events.Answer.{Answer}
 use Rattle.interleavings.specs.declared.events.Answer.TheVariants.{Claimed, Over, Seen, Nothing}
 use Rattle.interleavings.specs.declared.events.Answer.TheVariants.{Done, AlreadySet, Closed}
 use Rattle.interleavings.specs.declared.events.Answer.TheVariants.{Replied}
-use Rattle.interleavings.specs.declared.events.Taken.{Taken}
+use Rattle.interleavings.specs.declared.events.AnsweredEvent.{AnsweredEvent}
 
 -- an event with its answer
-abbrev pub taken : Event → Answer → Taken
+abbrev pub taken : Event → Answer → AnsweredEvent
 taken event answer = record { event = event; answer = answer }
 
 -- ---- claims
@@ -39,7 +39,7 @@ drawn Closed = None
 drawn (Replied reply stamp) = None
 
 -- how many claims were made
-abbrev pub claims_in : List Taken → ℕ
+abbrev pub claims_in : List AnsweredEvent → ℕ
 claims_in events = count_by (λ t. is_some (drawn t.answer)) events
 
 -- whether an event is a claim of this worker
@@ -51,11 +51,11 @@ is_claim_of worker (Close input upto) = false
 is_claim_of worker (Call client request) = false
 
 -- the number that a worker drew by an event, where it drew one
-abbrev pub drawn_by : ℕ → Taken → Option ℕ
+abbrev pub drawn_by : ℕ → AnsweredEvent → Option ℕ
 drawn_by worker t = if is_claim_of worker t.event then drawn t.answer else None
 
 -- a worker's latest claim
-abbrev pub latest_of : ℕ → List Taken → Option ℕ
+abbrev pub latest_of : ℕ → List AnsweredEvent → Option ℕ
 latest_of worker [] = None
 latest_of worker (t ∷ events) = option_or (latest_of worker events) (drawn_by worker t)
 
@@ -81,7 +81,7 @@ block_by input tick (Close of upto) = None
 block_by input tick (Call client request) = None
 
 -- the block of an input at a tick: the one to which a set that was done set it
-abbrev pub block_in : List Taken → ℕ → ℕ → Option (List ℤ)
+abbrev pub block_in : List AnsweredEvent → ℕ → ℕ → Option (List ℤ)
 block_in events input tick =
     first_some (λ t. if is_done t.answer then block_by input tick t.event else None) events
 
@@ -94,7 +94,7 @@ closes input tick (Close of upto) = eqb of input && nat_lt tick upto
 closes input tick (Call client request) = false
 
 -- whether an input's tick is closed
-abbrev pub is_closed : List Taken → ℕ → ℕ → Bool
+abbrev pub is_closed : List AnsweredEvent → ℕ → ℕ → Bool
 is_closed events input tick = list_any (λ t. closes input tick t.event) events
 
 -- ---- calls
@@ -120,20 +120,20 @@ call_in s journal (Close input upto) answer = None
 call_in s journal (Call client request) answer = call_by s journal client request answer
 
 -- a journal, and the calls that were accepted after it
-abbrev pub journal_from : SetupParts → List JournalCall → List Taken → List JournalCall
+abbrev pub journal_from : SetupParts → List JournalCall → List AnsweredEvent → List JournalCall
 journal_from s journal [] = journal
 journal_from s journal (t ∷ events) =
     journal_from s (journal ++ option_to_list (call_in s journal t.event t.answer)) events
 
 -- the calls that were accepted, in order
-abbrev pub journal_in : SetupParts → List Taken → List JournalCall
+abbrev pub journal_in : SetupParts → List AnsweredEvent → List JournalCall
 journal_in s events = journal_from s [] events
 
 -- ---- answers
 
 -- what a look is answered by the worker's latest claim: whether the block of the input is there at
 -- its tick
-abbrev pub look_answer : SetupParts → List Taken → ℕ → Option ℕ → Answer
+abbrev pub look_answer : SetupParts → List AnsweredEvent → ℕ → Option ℕ → Answer
 look_answer s events input None = Nothing
 look_answer s events input (Some k) = Seen (is_some (block_in events input (tick_of_claim s k)))
 
@@ -142,7 +142,7 @@ look_answer s events input (Some k) = Seen (is_some (block_in events input (tick
 -- `Nothing` where the worker has no claim. A set: `AlreadySet` where the block is there, else
 -- `Closed` where the tick is closed. A call: the one-thread book's reply at the calls and claims so
 -- far.
-abbrev pub answer_of : SetupParts → ℕ → List Taken → Event → Answer
+abbrev pub answer_of : SetupParts → ℕ → List AnsweredEvent → Event → Answer
 answer_of s ticks events (Claim worker) =
     if nat_lt (claims_in events) (ticks * length s.device.outputs) then Claimed (claims_in events)
     else Over
@@ -156,23 +156,23 @@ answer_of s ticks events (Call client request) =
     (stamp (length (journal_in s events)) (claims_in events))
 
 -- an event with the answer that it is given after these
-abbrev pub taken_by : SetupParts → ℕ → List Taken → Event → Taken
+abbrev pub taken_by : SetupParts → ℕ → List AnsweredEvent → Event → AnsweredEvent
 taken_by s ticks events event = taken event (answer_of s ticks events event)
 
 -- each event has the answer that it is given after those before it
-abbrev pub IsRun : SetupParts → ℕ → List Taken → Type 0
+abbrev pub IsRun : SetupParts → ℕ → List AnsweredEvent → Type 0
 IsRun s ticks events =
-    (k : ℕ) (t : Taken) → slice_get events k ≡ Some t
+    (k : ℕ) (t : AnsweredEvent) → slice_get events k ≡ Some t
     → t.answer ≡ answer_of s ticks (take k events) t.event
 
 -- these, and further events, each with the answer that it is given after those before it
-abbrev pub run_from : SetupParts → ℕ → List Taken → List Event → List Taken
+abbrev pub run_from : SetupParts → ℕ → List AnsweredEvent → List Event → List AnsweredEvent
 run_from s ticks before [] = before
 run_from s ticks before (event ∷ events) =
     run_from s ticks (before ++ taken_by s ticks before event ∷ []) events
 
 -- the run of these events
-unfoldable pub run_of : SetupParts → ℕ → List Event → List Taken
+unfoldable pub run_of : SetupParts → ℕ → List Event → List AnsweredEvent
 run_of s ticks events = run_from s ticks [] events
 
 -- ---- the numbers that an event may have

@@ -4,5 +4,3 @@ pub mod Legal
 pub mod Run
 pub mod Serial
 pub mod Told
-pub mod Facts
-pub mod Steps

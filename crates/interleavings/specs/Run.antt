@@ -22,7 +22,7 @@ use Rattle.interleavings.specs.declared.events.Answer.{Answer}
 use Rattle.interleavings.specs.declared.events.Answer.TheVariants.{Claimed, Over, Seen, Nothing}
 use Rattle.interleavings.specs.declared.events.Answer.TheVariants.{Done, AlreadySet, Closed}
 use Rattle.interleavings.specs.declared.events.Answer.TheVariants.{Replied}
-use Rattle.interleavings.specs.declared.events.Taken.{Taken}
+use Rattle.interleavings.specs.declared.events.AnsweredEvent.{AnsweredEvent}
 use Rattle.interleavings.specs.Events.{block_in, claims_in, drawn, drawn_by, journal_in}
 use Rattle.interleavings.specs.Legal.{packet_of}
 
@@ -54,12 +54,12 @@ is_for s k None = false
 is_for s k (Some j) = not (nat_lt k j) && eqb (tick_of_claim s j) (tick_of_claim s k)
 
 -- whether a worker with this latest claim sees the block of an input for claim k by an event
-abbrev pub sees_by : SetupParts → ℕ → ℕ → ℕ → Option ℕ → Taken → Bool
+abbrev pub sees_by : SetupParts → ℕ → ℕ → ℕ → Option ℕ → AnsweredEvent → Bool
 sees_by s worker k input latest t =
     looks worker input t.event && (saw t.answer && is_for s k latest)
 
 -- whether it does by one of these events, with this latest claim before them
-abbrev pub seen_from : SetupParts → ℕ → ℕ → ℕ → Option ℕ → List Taken → Bool
+abbrev pub seen_from : SetupParts → ℕ → ℕ → ℕ → Option ℕ → List AnsweredEvent → Bool
 seen_from s worker k input latest [] = false
 seen_from s worker k input latest (t ∷ events) =
     sees_by s worker k input latest t
@@ -74,20 +74,20 @@ claimer (Close input upto) = 0
 claimer (Call client request) = 0
 
 -- the worker that drew a number by an event, where one did
-abbrev pub draws : Taken → Option ℕ
+abbrev pub draws : AnsweredEvent → Option ℕ
 draws t = option_map (λ k. claimer t.event) (drawn t.answer)
 
 -- the workers of the claims, in order
-abbrev pub drawers : List Taken → List ℕ
+abbrev pub drawers : List AnsweredEvent → List ℕ
 drawers events = filter_map draws events
 
 -- the worker that drew a claim
-abbrev pub worker_of : List Taken → ℕ → ℕ
+abbrev pub worker_of : List AnsweredEvent → ℕ → ℕ
 worker_of events k = slice_index_or (drawers events) k 0
 
 -- whether the worker of a claim saw the block of an input at its tick, for this claim or an earlier
 -- one
-abbrev pub has_seen : SetupParts → List Taken → Sights
+abbrev pub has_seen : SetupParts → List AnsweredEvent → Sights
 has_seen s events k input = seen_from s (worker_of events k) k input None events
 
 -- ---- the history
@@ -104,7 +104,7 @@ abbrev pub claim_with : SetupParts → List JournalCall → Blocks → ℕ → L
 claim_with s journal blocks k found = claim_item k found (packet_of s journal blocks found k)
 
 -- claim k of these events: its flags are those of the blocks that its worker saw
-abbrev pub claim_in : SetupParts → List JournalCall → List Taken → ℕ → ClaimItem
+abbrev pub claim_in : SetupParts → List JournalCall → List AnsweredEvent → ℕ → ClaimItem
 claim_in s journal events k =
     claim_with s journal (block_in events) k (seen_flags s journal (has_seen s events k) k)
 
@@ -128,11 +128,11 @@ reply_in (Close input upto) answer = None
 reply_in (Call client request) answer = reply_by client answer
 
 -- the replies as they were given
-abbrev pub replies_given : List Taken → List ReplyItem
+abbrev pub replies_given : List AnsweredEvent → List ReplyItem
 replies_given events = filter_map (λ t. reply_in t.event t.answer) events
 
 -- the history of these events: the claims made, the calls accepted, and the replies in order
-unfoldable pub history_in : SetupParts → List Taken → History
+unfoldable pub history_in : SetupParts → List AnsweredEvent → History
 history_in s events =
     history_of (map (claim_in s (journal_in s events) events) (range_with_len 0 (claims_in events)))
     (journal_in s events) (in_order (replies_given events))
@@ -146,5 +146,5 @@ ask_in client (Close input upto) = None
 ask_in client (Call of request) = if eqb of client then Some request else None
 
 -- the requests of a client, in order
-abbrev pub asks_in : List Taken → ℕ → List Request
+abbrev pub asks_in : List AnsweredEvent → ℕ → List Request
 asks_in events client = filter_map (λ t. ask_in client t.event) events

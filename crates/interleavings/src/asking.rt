@@ -24,13 +24,15 @@ fn copied(reply: &Reply) -> Result<Reply, NoMemory>
     ensures err { OnErr result (accepts reply.now ≡ false) }
 {
     match reply {
-        Reply::Activated { id, tick } => Ok(Reply::Activated {
+        Reply::Activated { id, tick, offset } => Ok(Reply::Activated {
             id: *id,
             tick: *tick,
+            offset: *offset,
         }),
-        Reply::Scheduled { id, tick } => Ok(Reply::Scheduled {
+        Reply::Scheduled { id, tick, offset } => Ok(Reply::Scheduled {
             id: *id,
             tick: *tick,
+            offset: *offset,
         }),
         Reply::Deleted { id } => Ok(Reply::Deleted { id: *id }),
         Reply::Active(view) => Ok(Reply::Active(view.copy()?)),
@@ -112,7 +114,14 @@ fn keep(journal: &mut Journal, asked: &[JournalCall], count: usize, request: Req
 {
     if count < asked.len() {
         let last = &asked[count];
-        let call = JournalCall::new(last.at, last.client, last.id, last.tick, request);
+        let call = JournalCall::new(
+            last.at,
+            last.client,
+            last.id,
+            last.tick,
+            last.offset,
+            request,
+        );
         journal.set(count, call);
     } else {
         journal.truncate(count);
@@ -138,7 +147,7 @@ pub(crate) fn call(
     let calls = facts.history.journal.len();
     let copy = request.copy()?;
     // The call's place is made before the book is asked, so that nothing fails afterwards.
-    let place = JournalCall::new(0, 0, 0, 0, Request::Active);
+    let place = JournalCall::new(0, 0, 0, 0, 0, Request::Active);
     facts.history.journal.push(place)?;
     let kept = mem::replace(&mut facts.history.replies, ReplyItems::new(session.alloc));
     let mut replies = kept.into_vec();

@@ -47,7 +47,7 @@ pub enum Answer {
 
 /// An event with its answer.
 #[derive(Debug, Drop)]
-pub struct Taken {
+pub struct AnsweredEvent {
     pub event: Event,
     pub answer: Answer,
 }

@@ -9,7 +9,6 @@ mod blocks;
 mod cases;
 mod events;
 mod facts;
-pub mod headline;
 pub mod laws;
 mod machine;
 mod render;
@@ -18,5 +17,5 @@ mod steps;
 #[cfg(test)]
 mod tests;
 
-pub use events::{Answer, Event, Events, Taken, are_in_range};
+pub use events::{Answer, AnsweredEvent, Event, Events, are_in_range};
 pub use machine::{Core, law_core};

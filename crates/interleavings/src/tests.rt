@@ -9,8 +9,8 @@ use io_caps::{
     Device, DeviceParts, Input, Inputs, Labels, NoMemory, Output, Outputs, Parent, Rate, Routable,
     Text, Width,
 };
-use map_entry::{Action, Cell, Change, Changes, OutputChange, Row, Rows, Setup};
-use plain_book::{ActiveView, ClaimItem, History, Refusal, Reply, Request, When};
+use map_entry::{Action, Cell, Change, Changes, Grain, OutputChange, Row, Rows, Setup};
+use plain_book::{ActiveView, ClaimItem, History, Refusal, Reply, ReplyItem, Request, Said, When};
 use std::alloc::Global;
 use std::test::Fail;
 use tai_time::Tai;
@@ -219,6 +219,98 @@ fn mid_tick_activation(rt: HostRuntime) -> Result<(), Fail> {
     Ok(())
 }
 
+// ---- frames
+
+/// An activation of the first channel of output `x` from the second frame of tick 1 on.
+fn activate_within(alloc: Global) -> Result<Event, Fail> {
+    let mut action = Action::new(alloc);
+    name(alloc, &mut action, 0, 0, from(0, 0))?;
+    let when = When::At(Tai {
+        secs: 0,
+        nanos: 62_500,
+    });
+    let request = Request::Activate { when, action };
+    let client = 0;
+    Ok(Event::Call { client, request })
+}
+
+/// An activation from the second frame of tick 1 on, two claims and a third, a look at the block of
+/// that tick, and the deletion of the activation before or after the third claim.
+fn within_a_tick(alloc: Global, early: bool) -> Result<Events, Fail> {
+    let block = block(alloc, [0x111100, 0x222200, 0x333300, 0x444400])?;
+    let (worker, input, tick) = (0, 0, 1);
+    let client = 0;
+    let request = Request::Delete { id: 1 };
+    let deletion = Event::Call { client, request };
+    let mut events = Events::new(alloc);
+    events.push(Event::Set { input, tick, block })?;
+    events.push(activate_within(alloc)?)?;
+    claims(&mut events, 2)?;
+    if early {
+        events.push(deletion)?;
+        claims(&mut events, 1)?;
+    } else {
+        claims(&mut events, 1)?;
+        events.push(deletion)?;
+    }
+    events.push(Event::Look { worker, input })?;
+    Ok(events)
+}
+
+/// The core of these events, whose activations count from frames.
+fn frame_core(alloc: Global, early: bool) -> Result<Core, Fail> {
+    let Setup { device, rows, .. } = setup(alloc, 0, [OFF, OFF], [OFF, OFF])?;
+    let grain = Grain::Frame;
+    let setup = Setup {
+        device,
+        rows,
+        grain,
+    };
+    let events = within_a_tick(alloc, early)?;
+    if are_in_range(&setup, 1, &events) {
+        Ok(law_core(alloc, &setup, 3, 1, &events)?)
+    } else {
+        Err("events that a core takes".into())
+    }
+}
+
+/// The book's reply of an item, where it is a plain one.
+fn plain(item: Option<&ReplyItem>) -> Option<&Reply> {
+    match &item?.said {
+        Said::Plain(reply) => Some(reply),
+        Said::Http(_) => None,
+    }
+}
+
+fn is_scheduled(item: Option<&ReplyItem>) -> bool {
+    match plain(item) {
+        Some(Reply::Scheduled { id, tick, offset }) => (*id, *tick, *offset) == (1, 1, 1),
+        _ => false,
+    }
+}
+
+fn is_deleted(item: Option<&ReplyItem>) -> bool {
+    match plain(item) {
+        Some(Reply::Deleted { id }) => *id == 1,
+        _ => false,
+    }
+}
+
+#[test]
+fn frame_grain(rt: HostRuntime) -> Result<(), Fail> {
+    let half = [0, 0, 0, 0, 0x33, 0x33, 0, 0];
+    for (early, samples) in [(true, [0; 8]), (false, half)] {
+        let core = frame_core(rt.alloc(), early)?;
+        let history = core.history();
+        assert!(&rt; has(history, 2, !early, &samples));
+        let first = history.replies.get(0);
+        let second = history.replies.get(1);
+        assert!(&rt; is_scheduled(first));
+        assert_eq!(rt; is_deleted(second), early);
+    }
+    Ok(())
+}
+
 // ---- lists of events
 
 /// Numbers from a seed.
@@ -386,12 +478,12 @@ fn add_refusal(total: &mut Total, refusal: Refusal) {
 
 fn add_reply(total: &mut Total, reply: &Reply) {
     match reply {
-        Reply::Activated { id, tick } => {
+        Reply::Activated { id, tick, .. } => {
             total.add(1);
             total.add(*id);
             total.add(*tick);
         }
-        Reply::Scheduled { id, tick } => {
+        Reply::Scheduled { id, tick, .. } => {
             total.add(2);
             total.add(*id);
             total.add(*tick);

@@ -1,3 +1,4 @@
+use Rattle.interleavings.proofs.Shapes.{has_shape}
 use Rattle.std.proofs.Common.{◌≡◌, ◌∙◌, ap, sym, subst, take, length, refl, List, ℕ}
 use Rattle.std.proofs.Common.{arith, length-append}
 use Rattle.std.specs.Option.{option_to_list}
@@ -6,7 +7,6 @@ use Rattle.plain_book.specs.Book.{call_of, reply_of}
 use Rattle.plain_book.specs.Desk.{DeskParts}
 use Rattle.book_words.specs.declared.history.ReplyItem.{ReplyItem}
 use Rattle.book_words.specs.History.{AreInOrder, put}
-use Rattle.plain_book.proofs.Keeping.{has_outputs}
 use Rattle.interleavings.specs.declared.events.Event.TheVariants.{Call}
 use Rattle.interleavings.specs.Core.{desk_after, plain_item, taken_in}
 use Rattle.interleavings.proofs.Changing.{call_ready}
@@ -92,6 +92,6 @@ returns-in-Ok-clause-core c =
     (c.into_vec-replies.ensures ∙ c.replace-kept.ensures.value) in
     core_more s events (Call c.args.client c.args.request.now) facts _ core c.requires.range
     (call_ready s.setup s.ticks s.workers (taken_in s events) c.args.client c.args.request.now facts
-    _ (has_outputs s.setup core.setup) (run_in s events)
+    _ (has_shape s.setup core.setup) (run_in s events)
     c.in-Ok.ensures.desk refl refl refl
     (same_history refl (c.keep.ensures ∙ asked_is) replies) core.ready)

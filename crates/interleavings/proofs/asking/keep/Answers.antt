@@ -17,7 +17,8 @@ returns-then-count-asked c =
     slice_get_read asked _ n _ refl c.if-count-asked.true c.index-asked-count.is in
     let same : last.request ≡ c.args.request = rw got at c.requires.last in
     let call_is : c.new-call.result ≡ last =
-    c.new-call.ensures ∙ ap (λ (r : Request). journal_call last.at last.client last.id last.tick r)
+    c.new-call.ensures ∙ ap
+    (λ (r : Request). journal_call last.at last.client last.id last.tick last.offset r)
     (sym same) in
     c.set.ensures ∙ ap (λ (x : JournalCall). set journal n x) call_is
     ∙ put_right journal asked n last c.requires.long c.requires.few c.requires.same got

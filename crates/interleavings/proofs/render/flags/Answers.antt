@@ -7,11 +7,12 @@ use Rattle.interleavings.proofs.Shown.{flags_are}
 use Rattle.interleavings.proofs.render.flags.Goals as goal
 
 pub returns : goal.returns
-returns c =
+returns g c =
     let s = c.args.setup.now in
     let made = c.mark_seen.new.flags in
     let long : length made ≡ length s.device.inputs = search rules in
     c.from_vec.ensures ∙ take_at made _ c.in_ok-made.made.len (search rules)
-    ∙ flags_are (λ (i : ℕ). is_named s.device.rate.frames (λ frame. c.args.row.now) i && flag_of
-    c.args.seen.now i) (length s.device.inputs) made long
+    ∙ flags_are
+    (λ (i : ℕ). is_named s.device.rate.frames (g.R.FrameRows.row_of c.args.rows.now) i
+    && flag_of c.args.seen.now i) (length s.device.inputs) made long
     c.mark_seen.ensures.each

@@ -1,17 +1,16 @@
-use Rattle.std.proofs.Common.{◌≡◌, ◌<◌, ℕ, true, false, List, length, refl, sym, ap, ◌∙◌, arith}
+use Rattle.std.proofs.Common.{◌≡◌, ◌<◌, ℕ, true, false, length, refl, sym, ap, ◌∙◌, arith}
 use Rattle.std.specs.Prelude.{not}
 use Rattle.io_caps.specs.declared.rate.Rate.{Rate}
 use Rattle.map_entry.specs.Setup.{SetupParts}
-use Rattle.map_entry.specs.declared.cell.Cell.{Cell}
 use Rattle.packet_writer.specs.Flags.{is_named}
 use Rattle.packet_writer.specs.Packet.{flag_of}
 use Rattle.interleavings.proofs.Shown.{flag_is, when_none}
 use Rattle.interleavings.proofs.render.mark_seen.Goals as goal
 
 pub returns-clause-each : goal.returns-clause-each
-returns-clause-each c = λ i there.
+returns-clause-each g c = λ i there.
     let s = c.args.setup.now in
-    let row = c.args.row.now in
+    let rows = g.R.FrameRows.row_of c.args.rows.now in
     let n = s.device.rate.frames in
     let look = c.look_at_marked-untold.ensures in
     let here = flag_of c.args.seen.now i in
@@ -23,9 +22,8 @@ returns-clause-each c = λ i there.
     let after = c.look_at_marked-untold.new.looks in
     let lt : i < length c.args.flags.now = omega (arith, there, c.requires) in
     let within : i < length flags = omega (arith, lt, c.mark_named.ensures.len) in
-    let marked : flag_of flags i ≡ is_named n (λ f. row) i =
-    c.mark_named.ensures.each i lt ∙ ap (λ (m : ℕ). is_named m (λ f. c.new.result.row.now) i) frames
-    ∙ ap (λ (r : List Cell). is_named n (λ f. r) i) (c.new.ensures.row 0) in
+    let marked : flag_of flags i ≡ is_named n rows i =
+    c.mark_named.ensures.each i lt ∙ ap (λ (m : ℕ). is_named m rows i) frames in
     let told = c.is_none.ensures ∙ ap not c.if-prove.false in
     let set_told : (j : ℕ) → j < length flags → flag_of flags j ≡ true
     → flag_of found j ≡ flag_of after.flags.now j =
@@ -34,5 +32,5 @@ returns-clause-each c = λ i there.
     → flag_of found j ≡ false =
     when_none c.look_at_marked-untold.result told look.other in
     let seen = look.kept i here refl in
-    flag_is (is_named n (λ f. row) i) here (flag_of found i) (flag_of flags i) marked
+    flag_is (is_named n rows i) here (flag_of found i) (flag_of flags i) marked
     (λ set. set_told i within set ∙ sym seen) (λ none. unset_told i within none)

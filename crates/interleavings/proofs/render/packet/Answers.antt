@@ -1,20 +1,14 @@
-use Rattle.std.proofs.Common.{◌≡◌, ℕ, refl, sym, ◌∙◌, rules}
+use Rattle.std.proofs.Common.{◌≡◌, ℕ, refl, ◌∙◌, rules}
 use Rattle.std.proofs.lemmas.List.{take_at}
-use Rattle.map_entry.specs.Row.{channels_of, channels_of_output}
-use Rattle.packet_writer.specs.Packet.{flag_of, found_block, output_of_claim}
+use Rattle.map_entry.specs.Row.{channels_of}
+use Rattle.packet_writer.specs.Packet.{flag_of, found_block}
 use Rattle.plain_book.specs.Time.{tick_of_claim}
 use Rattle.interleavings.specs.Core.{set_at}
 use Rattle.interleavings.proofs.Shown.{found_whole}
 use Rattle.interleavings.proofs.render.packet.Goals as goal
 
-pub write_claim-requires-clause-rows : goal.write_claim-requires-clause-rows
-write_claim-requires-clause-rows c =
-    let d = c.args.setup.now.device in
-    c.new.ensures.fits d.inputs (channels_of_output d (output_of_claim c.args.setup.now c.args.k))
-    d.rate.frames c.requires.row
-
 pub write_claim-requires-clause-blocks : goal.write_claim-requires-clause-blocks
-write_claim-requires-clause-blocks c = λ b agrees input.
+write_claim-requires-clause-blocks g c = λ b agrees input.
     let s = c.args.setup.now in
     let tick = tick_of_claim s c.args.k in
     let block = set_at c.args.table.now input tick in
@@ -29,7 +23,7 @@ write_claim-requires-clause-blocks c = λ b agrees input.
     (flag_of c.args.found.now input) block (c.requires.blocks input tick))
 
 pub returns : goal.returns
-returns c = λ entries row.
+returns g c = λ entries rows.
     let s = c.args.setup.now in
     let k = c.args.k in
     let source = c.write_claim.new.source in
@@ -46,5 +40,5 @@ returns c = λ entries row.
     ) refl in
     c.from_vec.ensures ∙ take_at c.write_claim.new.out _ c.in_ok-made.made.len (search rules)
     ∙ c.write_claim.ensures.text b (λ i. refl) entries (set_at c.args.table.now) c.args.found.now
-    (λ frame lt. c.new.ensures.row frame ∙ sym (row frame))
+    rows
     (λ input named. same input)

@@ -1,9 +1,9 @@
+use Rattle.interleavings.proofs.Shapes.{has_shape}
 use Rattle.std.proofs.Common.{◌≡◌, ◌∙◌, ◌+◌, refl, sym, ap, set, ℕ, List, Some}
 use Rattle.std.proofs.Common.{rules}
 use Rattle.book_words.specs.declared.history.ClaimItem.{ClaimItem}
 use Rattle.plain_book.specs.Desk.{DeskParts, desk_parts}
 use Rattle.book_words.specs.History.{history_of}
-use Rattle.plain_book.proofs.Keeping.{has_outputs}
 use Rattle.interleavings.specs.declared.events.Event.TheVariants.{Claim}
 use Rattle.interleavings.specs.declared.events.Answer.TheVariants.{Claimed, Over}
 use Rattle.interleavings.specs.Core.{taken_in}
@@ -22,7 +22,7 @@ returns-then-k-session-clause-core c =
     let is : Over ≡ answer_of s.setup s.ticks taken (Claim c.args.worker) = search rules in
     core_more s events (Claim c.args.worker) c.args.facts.now c.args.facts.now core c.requires.range
     (over_ready s.setup s.ticks s.workers taken c.args.worker c.args.facts.now
-    (has_outputs s.setup core.setup) (run_in s events) (sym is) core.ready)
+    (has_shape s.setup core.setup) (run_in s events) (sym is) core.ready)
 
 pub sight_at-requires : goal.sight_at-requires
 sight_at-requires c =
@@ -56,7 +56,7 @@ returns-clause-core c =
     let seen = c.in_ok-seen.seen in
     core_more s events (Claim c.args.worker) old _ core c.requires.range
     (claim_ready s.setup s.ticks s.workers taken c.args.worker c.sight_at.result.now
-    c.in_ok-item.item seen old _ (has_outputs s.setup core.setup)
+    c.in_ok-item.item seen old _ (has_shape s.setup core.setup)
     (run_in s events)
     (sym is ∙ ap Claimed k_is) c.requires.range
     (sight_is s.setup s.workers taken old c.args.worker c.sight_at.result.now core.ready

@@ -1,5 +1,5 @@
+use Rattle.interleavings.proofs.Shapes.{has_shape}
 use Rattle.std.proofs.Common.{◌∙◌, refl, ap, set, max, ℕ}
-use Rattle.plain_book.proofs.Keeping.{has_outputs}
 use Rattle.interleavings.specs.declared.events.Event.TheVariants.{Close}
 use Rattle.interleavings.specs.Core.{taken_in}
 use Rattle.interleavings.proofs.Readiness.{close_ready}
@@ -29,7 +29,7 @@ returns-clause-core c =
     ∙ closing_is s.setup s.workers taken old c.args.input core.ready c.requires.range in
     core_more s events (Close c.args.input c.args.upto) old _ core c.requires.range
     (close_ready s.setup s.ticks s.workers taken c.args.input c.args.upto old _
-    (has_outputs s.setup core.setup) (run_in s events) c.requires.range refl
+    (has_shape s.setup core.setup) (run_in s events) c.requires.range refl
     refl refl refl
     (c.set.ensures ∙ ap (λ (z : ℕ). set old.closings c.args.input z)
     (c.max.ensures ∙ ap (λ (z : ℕ). max z c.args.upto) last)) core.ready)

@@ -1,3 +1,4 @@
+use Rattle.interleavings.proofs.Shapes.{has_shape}
 use Rattle.std.proofs.Common.{◌≡◌, ◌∙◌, refl, sym, ap, true, length, List, None}
 use Rattle.std.proofs.Common.{arith}
 use Rattle.std.proofs.lemmas.List.FromFn.{length-map-range_with_len}
@@ -5,7 +6,6 @@ use Rattle.book_words.specs.declared.history.ClaimItem.{ClaimItem}
 use Rattle.plain_book.specs.Desk.{DeskParts}
 use Rattle.book_words.specs.History.{history_of}
 use Rattle.plain_book.specs.Time.{tick_of_claim}
-use Rattle.plain_book.proofs.Keeping.{has_outputs}
 use Rattle.interleavings.specs.declared.events.Event.TheVariants.{Look}
 use Rattle.interleavings.specs.declared.events.Answer.TheVariants.{Seen}
 use Rattle.interleavings.specs.declared.facts.Sight.{Sight}
@@ -48,7 +48,7 @@ returns-in-None-clause-core c =
     core_more s events (Look c.args.worker c.args.input) c.args.facts.now c.args.facts.now core
     c.requires.range
     (unseen_ready s.setup s.ticks s.workers taken c.args.worker c.args.input c.args.facts.now
-    (has_outputs s.setup core.setup) (run_in s events)
+    (has_shape s.setup core.setup) (run_in s events)
     (rw none refl) (rw none refl) core.ready)
 
 pub tick_of-requires : goal.tick_of-requires
@@ -91,7 +91,7 @@ returns-then-not-has_block-clause-core c =
     core_more s events (Look c.args.worker c.args.input) c.args.facts.now c.args.facts.now core
     c.requires.range
     (unseen_ready s.setup s.ticks s.workers taken c.args.worker c.args.input c.args.facts.now
-    (has_outputs s.setup core.setup) (run_in s events)
+    (has_shape s.setup core.setup) (run_in s events)
     (rw (its.latest, absent) refl) (rw its.latest refl) core.ready)
 
 pub saw-requires-clause-facts : goal.saw-requires-clause-facts
@@ -177,7 +177,7 @@ returns-clause-core c =
     core_more s events (Look c.args.worker c.args.input) old _ core c.requires.range
     (look_ready s.setup s.ticks s.workers taken c.args.worker c.args.input k sight c.in_ok-seen.item
     c.in_ok-seen.seen old _
-    (has_outputs s.setup core.setup) (run_in s events) is
+    (has_shape s.setup core.setup) (run_in s events) is
     c.requires.range.0 c.requires.range.1
     (sight_is s.setup s.workers taken old c.args.worker sight core.ready c.requires.range.0
     c.sight_at-sight.ensures)

@@ -1,7 +1,7 @@
+use Rattle.interleavings.proofs.Shapes.{has_shape}
 use Rattle.std.proofs.Common.{◌≡◌, ◌∙◌, refl, sym, true, false, arith}
 use Rattle.std.specs.Prelude.{is_some}
 use Rattle.std.proofs.lemmas.Bool.{lt-ltb, le-ltb}
-use Rattle.plain_book.proofs.Keeping.{has_outputs}
 use Rattle.interleavings.specs.declared.events.Event.TheVariants.{Set}
 use Rattle.interleavings.specs.declared.events.Answer.TheVariants.{Done}
 use Rattle.interleavings.specs.Core.{closing_in, taken_in}
@@ -25,7 +25,7 @@ returns-then-has_block-clause-core c =
     core_more s events (Set i t c.args.block.now) c.args.facts.now c.args.facts.now core
     c.requires.range
     (unset_ready s.setup s.ticks s.workers taken i t c.args.block.now c.args.facts.now
-    (has_outputs s.setup core.setup) (run_in s events)
+    (has_shape s.setup core.setup) (run_in s events)
     (set_undrawn (is_some (block_in taken i t)) (is_closed taken i t)) (rw there refl) core.ready)
 
 pub closing_at-requires : goal.closing_at-requires
@@ -68,7 +68,7 @@ returns-then-tick-closing_at-clause-core c =
     core_more s events (Set i t c.args.block.now) c.args.facts.now c.args.facts.now core
     c.requires.range
     (unset_ready s.setup s.ticks s.workers taken i t c.args.block.now c.args.facts.now
-    (has_outputs s.setup core.setup) (run_in s events)
+    (has_shape s.setup core.setup) (run_in s events)
     (set_undrawn (is_some (block_in taken i t)) (is_closed taken i t))
     (rw (absent, closed) refl) core.ready)
 
@@ -109,6 +109,6 @@ returns-clause-core c =
     let put = rw c.in_ok-copy.ensures at c.in_ok-put_block.ensures.put in
     core_more s events (Set i t c.args.block.now) old _ core c.requires.range
     (set_ready s.setup s.ticks s.workers taken i t c.args.block.now old _
-    (has_outputs s.setup core.setup) (run_in s events) is
+    (has_shape s.setup core.setup) (run_in s events) is
     (none_there (block_in taken i t) absent)
     refl refl refl c.put_block.ensures.long put refl core.ready)

@@ -1,4 +1,4 @@
-use Rattle.std.proofs.Common.{◌≡◌, ℕ}
+use Rattle.std.proofs.Common.{◌≡◌}
 use Rattle.interleavings.proofs.tests.number_of.Given as goal
 
 abbrev pub invariant-loop : goal.invariant-loop

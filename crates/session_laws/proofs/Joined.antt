@@ -1,4 +1,5 @@
 -- The parts of a session's history, joined, are a legal history.
+use Rattle.interleavings.proofs.Shapes.{HasShape}
 use Rattle.std.proofs.Common.{◌≡◌, ℕ, ◌+◌, ◌≤◌, List, [], ◌∷◌, ◌++◌, refl, sym, ap, subst, ◌∙◌}
 use Rattle.std.proofs.Common.{arith, append_assoc}
 use Rattle.std.specs.Prelude.{fold}
@@ -15,15 +16,14 @@ use Rattle.plain_book.specs.Given.{AreGiven, replies_of}
 use Rattle.book_words.specs.History.{history_of, put}
 use Rattle.plain_book.specs.Legal.{IsLegalJournal}
 use Rattle.plain_book.proofs.Giving.{given_then, parts_given}
-use Rattle.plain_book.proofs.Waiting.{HasOutputs}
-use Rattle.interleavings.specs.Facts.{AreLaps, Gathering, IsLegalBy, IsSession, Lap, given_in_all}
-use Rattle.interleavings.specs.Facts.{given_in_laps, items_of}
-use Rattle.interleavings.specs.Steps.{AreHistoryParts, IsHistoryPart, all_joined, parts_joined}
-use Rattle.interleavings.proofs.Lapped.{AreItems, IsClaimed}
-use Rattle.interleavings.proofs.Numbered.{numbered_then}
-use Rattle.interleavings.proofs.Sessions.{InOrder, claims_whole, first_items, put_in_order}
-use Rattle.interleavings.proofs.Sessions.{session_asks, session_given, session_journal}
-use Rattle.interleavings.proofs.Telling.{plain_replies}
+use Rattle.session_laws.specs.Facts.{AreLaps, Gathering, IsLegalBy, IsSession, Lap, given_in_all}
+use Rattle.session_laws.specs.Facts.{given_in_laps, items_of}
+use Rattle.session_laws.specs.Steps.{AreHistoryParts, IsHistoryPart, all_joined, parts_joined}
+use Rattle.session_laws.proofs.Lapped.{AreItems, IsClaimed}
+use Rattle.session_laws.proofs.Numbered.{numbered_then}
+use Rattle.session_laws.proofs.Sessions.{InOrder, claims_whole, first_items, put_in_order}
+use Rattle.session_laws.proofs.Sessions.{session_asks, session_given, session_journal}
+use Rattle.interleavings.proofs.Telling.{plain_calls, plain_replies}
 
 -- what has been joined so far: the claims made, the calls accepted, and the replies of the answers
 -- given
@@ -70,7 +70,7 @@ no_items s g blocks last at to same = record {
 -- all parts after what has been joined
 far_joined : (s : SetupParts) (g : Gathering) (blocks : Blocks) (m from : ℕ)
     (journal : List JournalCall) (laps : List Lap) (end last : List JournalCall)
-    (late given : List Given) (h : History) (parts : List History) → HasOutputs s
+    (late given : List Given) (h : History) (parts : List History) → HasShape s
     → IsLegalJournal s m last
     → AreGiven s end m late last m → AreLaps s g blocks from journal laps m end
     → AreGiven s [] 0 given journal from → AreHistoryParts journal laps late last parts
@@ -118,7 +118,7 @@ nothing_yet s g blocks last = record {
 -- the parts of a session, joined, are a legal history
 pub joined_legal : (s : SetupParts) (g : Gathering) (blocks : Blocks) (m : ℕ)
     (asks : ℕ → List Request) (laps : List Lap) (late : List Given) (last : List JournalCall)
-    (parts : List History) → HasOutputs s → IsSession s g blocks m asks laps late last
+    (parts : List History) → HasShape s → IsSession s g blocks m asks laps late last
     → AreHistoryParts [] laps late last parts → IsLegalBy s g m blocks asks (all_joined parts)
 joined_legal s g blocks m asks laps late last parts some is parts_are =
     let legal = session_journal s g blocks m asks laps late last is in
@@ -137,4 +137,7 @@ joined_legal s g blocks m asks laps late last parts some is parts_are =
       journal = legal;
       claimed = claims_whole s g blocks last m h.claims all.claims;
       replied = replied;
+      calls = plain_calls s last m asks (given_in_all laps late)
+          (session_given s g blocks m asks laps late last is)
+          (session_asks s g blocks m asks laps late last is);
     })

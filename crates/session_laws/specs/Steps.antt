@@ -1,11 +1,10 @@
 -- What single calls on running tables tell, from which the facts of a session are made; and how the
 -- parts of a history are joined. (This project's own.)
-use Rattle.std.specs.Prelude.{◌≡◌, ℕ, ◌+◌, ◌<◌, ◌≤◌, fold, Bool, true, false, List, [], ◌∷◌, ◌++◌}
-use Rattle.std.specs.Prelude.{length, All, IsPermutation}
+use Rattle.std.specs.Prelude.{◌≡◌, ℕ, ◌+◌, ◌<◌, fold, Bool, true, false, List, [], ◌∷◌, ◌++◌}
+use Rattle.std.specs.Prelude.{length, IsPermutation}
 use Rattle.std.specs.List.{Contains}
 use Rattle.std.specs.List.Sorted.{IsNonDecreasingBy}
 use Rattle.io_caps.specs.declared.device.DeviceParts.{DeviceParts}
-use Rattle.map_entry.specs.declared.entry.Entry.{Entry}
 use Rattle.map_entry.specs.Setup.{SetupParts}
 use Rattle.packet_writer.specs.Flags.{Sights, names_by}
 use Rattle.packet_writer.specs.Packet.{Blocks, flag_of, packet_by, tick_of_claim}
@@ -15,13 +14,16 @@ use Rattle.book_words.specs.declared.history.ClaimItem.{ClaimItem}
 use Rattle.book_words.specs.declared.history.History.{History}
 use Rattle.plain_book.specs.Given.{replies_of}
 use Rattle.book_words.specs.History.{history_of, put}
-use Rattle.interleavings.specs.Facts.{Agrees, Draw, Heard, IsGood, Lap, Look, Made, items_of}
-use Rattle.interleavings.specs.Facts.{once_below, times}
+use Rattle.claim_rule.specs.declared.view.Draw.{Draw}
+use Rattle.input_cells.specs.Agreement.{Agrees}
+use Rattle.input_rule.specs.declared.view.HeardSample.{HeardSample}
+use Rattle.input_rule.specs.declared.view.Look.{Look}
+use Rattle.session_laws.specs.Facts.{Lap, Made, items_of}
 
 -- ---- looks
 
 -- one of these looks saw the block of an input at a tick
-pub record HasSeen (looks : List Look) (input tick : ℕ) : Type 0 where
+pub record SawBlock (looks : List Look) (input tick : ℕ) : Type 0 where
   pub look : Look
   pub among : Contains looks look
   pub input_is : look.input ≡ input
@@ -29,7 +31,7 @@ pub record HasSeen (looks : List Look) (input tick : ℕ) : Type 0 where
   pub saw_it : look.present ≡ true
 
 -- one of them found no block there, after a closing number above the tick had been seen
-pub record HasMissed (looks : List Look) (input tick : ℕ) : Type 0 where
+pub record MissedBlock (looks : List Look) (input tick : ℕ) : Type 0 where
   pub look : Look
   pub among : Contains looks look
   pub input_is : look.input ≡ input
@@ -38,17 +40,18 @@ pub record HasMissed (looks : List Look) (input tick : ℕ) : Type 0 where
   pub late : tick < look.closed
 
 -- a flag in closed form is what a look saw, and where it is not set the tick was closed
-abbrev pub LookedClosed : List Look → ℕ → ℕ → Bool → Type 0
-LookedClosed looks input tick true = HasSeen looks input tick
-LookedClosed looks input tick false = HasMissed looks input tick
+abbrev pub FlagClosed : List Look → ℕ → ℕ → Bool → Type 0
+FlagClosed looks input tick true = SawBlock looks input tick
+FlagClosed looks input tick false = MissedBlock looks input tick
 
 -- a flag in free form is set by a look that saw the block
-abbrev pub LookedFree : List Look → ℕ → ℕ → Bool → Type 0
-LookedFree looks input tick true = HasSeen looks input tick
-LookedFree looks input tick false = Unit {0}
+abbrev pub FlagFree : List Look → ℕ → ℕ → Bool → Type 0
+FlagFree looks input tick true = SawBlock looks input tick
+FlagFree looks input tick false = Unit {0}
 
 -- all that agrees with what was seen later agrees with what was seen before
-abbrev pub KnowsMore : DeviceParts → List Look → List Heard → List Look → List Heard → Type 0
+abbrev pub KnowsMore : DeviceParts → List Look → List HeardSample → List Look → List HeardSample
+    → Type 0
 KnowsMore d looks heard more further =
     (blocks : Blocks) → Agrees d more further blocks → Agrees d looks heard blocks
 
@@ -57,11 +60,11 @@ KnowsMore d looks heard more further =
 -- In closed form: the flag of an input that the entries found name is that of a look, and another
 -- input's is not set; and the packet is by the entries found, over any blocks that agree.
 pub record GathersClosed (s : SetupParts) (from : ℕ) (d : Draw) (looks : List Look)
-    (heard : List Heard) (item : ClaimItem) : Type 0 where
+    (heard : List HeardSample) (item : ClaimItem) : Type 0 where
   pub number : item.k ≡ from + d.number
   pub long : length item.found ≡ length s.device.inputs
   pub named : (input : ℕ) → input < length s.device.inputs → names_by s d.found item.k input ≡ true
-      → LookedClosed looks input (tick_of_claim s item.k) (flag_of item.found input)
+      → FlagClosed looks input (tick_of_claim s item.k) (flag_of item.found input)
   pub other : (input : ℕ) → input < length s.device.inputs → names_by s d.found item.k input ≡ false
       → flag_of item.found input ≡ false
   pub packet : (blocks : Blocks) → Agrees s.device looks heard blocks
@@ -70,22 +73,22 @@ pub record GathersClosed (s : SetupParts) (from : ℕ) (d : Draw) (looks : List 
 -- In free form: the same with a look at any time, but a block of the claim's tick that had been
 -- seen before is found again.
 pub record GathersFree (s : SetupParts) (from : ℕ) (d : Draw) (before looks : List Look)
-    (heard : List Heard) (item : ClaimItem) : Type 0 where
+    (heard : List HeardSample) (item : ClaimItem) : Type 0 where
   pub number : item.k ≡ from + d.number
   pub long : length item.found ≡ length s.device.inputs
   pub named : (input : ℕ) → input < length s.device.inputs → names_by s d.found item.k input ≡ true
-      → LookedFree looks input (tick_of_claim s item.k) (flag_of item.found input)
+      → FlagFree looks input (tick_of_claim s item.k) (flag_of item.found input)
   pub other : (input : ℕ) → input < length s.device.inputs → names_by s d.found item.k input ≡ false
       → flag_of item.found input ≡ false
   pub again : (input : ℕ) → input < length s.device.inputs → names_by s d.found item.k input ≡ true
-      → HasSeen before input (tick_of_claim s item.k) → flag_of item.found input ≡ true
+      → SawBlock before input (tick_of_claim s item.k) → flag_of item.found input ≡ true
   pub packet : (blocks : Blocks) → Agrees s.device looks heard blocks
       → item.packet ≡ packet_by s d.found blocks item.found item.k
 
 -- what is seen for a claim had been looked at before
 abbrev pub IsSeenBefore : SetupParts → Sights → List Look → ℕ → Type 0
 IsSeenBefore s seen before k =
-    (input : ℕ) → seen k input ≡ true → HasSeen before input (tick_of_claim s k)
+    (input : ℕ) → seen k input ≡ true → SawBlock before input (tick_of_claim s k)
 
 -- ---- a worker's job
 
@@ -94,7 +97,7 @@ abbrev pub none_made : Made
 none_made = record { draws = []; looks = []; heard = []; items = [] }
 
 -- with one more draw and its claim, and what is seen now
-abbrev pub made_more : Made → Draw → List Look → List Heard → ClaimItem → Made
+abbrev pub made_more : Made → Draw → List Look → List HeardSample → ClaimItem → Made
 made_more w d looks heard item =
     record { draws = w.draws ++ d ∷ []; looks = looks; heard = heard; items = w.items ++ item ∷ [] }
 
@@ -104,24 +107,8 @@ made_over w d =
     record { draws = w.draws ++ d ∷ []; looks = w.looks; heard = w.heard; items = w.items }
 
 -- with what is seen now alone
-abbrev pub made_still : Made → List Look → List Heard → Made
+abbrev pub made_still : Made → List Look → List HeardSample → Made
 made_still w looks heard = record { draws = w.draws; looks = looks; heard = heard; items = w.items }
-
--- ---- the end of a table of claims
-
--- what is known once every pass is back: each draw is good, and each number below those drawn
--- stands once, and no other
-pub record EndsTable (s : SetupParts) (from packets : ℕ) (list : List Entry) (draws : List Draw)
-    : Type 0 where
-  pub drawn : ℕ
-  pub good : All (IsGood s from packets list) draws
-  pub once : (number : ℕ) → times number draws ≡ once_below number drawn
-
--- a pass that is over drew a number past the packets
-pub record HasOver (packets : ℕ) (draws : List Draw) : Type 0 where
-  pub number : ℕ
-  pub late : packets ≤ number
-  pub there : 0 < times number draws
 
 -- ---- parts of a history
 

@@ -1,5 +1,6 @@
 -- The claims of a lap's workers are those of the history: each number of the lap stands once, and
 -- flags and packets are those by the whole journal and over the inputs' blocks.
+use Rattle.interleavings.proofs.Shapes.{HasShape}
 use Rattle.std.proofs.Common.{◌≡◌, ℕ, ◌+◌, ◌-◌, ◌<◌, ◌≤◌, Bool, true, eqb, List, [], ◌∷◌, ◌++◌}
 use Rattle.std.proofs.Common.{length, inl, inr, refl, sym, ap, subst, ◌∙◌, arith}
 use Rattle.std.specs.Prelude.{count_by, filter}
@@ -14,16 +15,19 @@ use Rattle.book_words.specs.declared.calls.JournalCall.{JournalCall}
 use Rattle.book_words.specs.declared.history.ClaimItem.{ClaimItem}
 use Rattle.plain_book.specs.Journal.{entries_of}
 use Rattle.plain_book.specs.Legal.{IsLegalJournal}
-use Rattle.plain_book.proofs.Waiting.{HasOutputs}
-use Rattle.interleavings.specs.Facts.{Agrees, Draw, Gathering, IsEnded, IsGood, IsItem, IsLap}
-use Rattle.interleavings.specs.Facts.{IsWorked, Lap, Made, draws_of, first_claim, form_by}
-use Rattle.interleavings.specs.Facts.{is_packet, items_of, times}
+use Rattle.claim_rule.specs.declared.plan.Plan.{Plan}
+use Rattle.claim_rule.specs.Rule.{IsGood}
+use Rattle.claim_rule.specs.Views.{times}
+use Rattle.claim_rule.specs.declared.view.Draw.{Draw}
+use Rattle.input_cells.specs.Agreement.{Agrees}
+use Rattle.session_laws.specs.Facts.{Gathering, IsEnded, IsItem, IsLap, IsWorked, Lap, Made}
+use Rattle.session_laws.specs.Facts.{draws_of, first_claim, form_by, is_packet, items_of}
 use Rattle.interleavings.specs.Legal.{IsClaim}
-use Rattle.interleavings.proofs.FoundRows.{AreFedAlike, AreRowsAlike, IsWithLater, claim_same}
-use Rattle.interleavings.proofs.FoundRows.{rows_found, tick_from, tick_to}
-use Rattle.interleavings.proofs.Numbered.{AreCounted, count_passed, count_zip, has_number}
-use Rattle.interleavings.proofs.Numbered.{none_passed}
-use Rattle.interleavings.proofs.Tabled.{below_is}
+use Rattle.session_laws.proofs.FoundRows.{AreFedAlike, AreRowsAlike, IsWithLater, claim_same}
+use Rattle.session_laws.proofs.FoundRows.{rows_found, tick_from, tick_to}
+use Rattle.session_laws.proofs.Numbered.{AreCounted, count_passed, count_zip, has_number}
+use Rattle.session_laws.proofs.Numbered.{none_passed}
+use Rattle.session_laws.proofs.Tabled.{below_is}
 
 -- ---- one claim
 
@@ -99,17 +103,17 @@ same_number from x y = elim (cases_Bool (eqb x y)) [
       (λ e. false≢true (sym other ∙ eq-eqb x y (omega (arith, e)))) ∙ sym other
 ]
 
-drawn_once : (s : SetupParts) (from packets : ℕ) (list : List Entry) (ds : List Draw) (x : ℕ)
-    → IsEnded s from packets list ds → x < packets → count_by (is_number x) ds ≡ 1
-drawn_once s from packets list ds x ended lt =
+drawn_once : (plan : Plan) (packets : ℕ) (list : List Entry) (ds : List Draw) (x : ℕ)
+    → IsEnded plan packets list ds → x < packets → count_by (is_number x) ds ≡ 1
+drawn_once plan packets list ds x ended lt =
     sym (times_is x ds) ∙ ended.once x ∙ below_is x ended.drawn
     ∙ rw (lt-ltb x ended.drawn (omega (arith, lt, ended.full))) refl
 
-items_counted : (s : SetupParts) (g : Gathering) (set : Blocks) (from packets : ℕ)
-    (list : List Entry) (ds : List Draw) (items : List ClaimItem) → IsEnded s from packets list ds
+items_counted : (s : SetupParts) (g : Gathering) (set : Blocks) (plan : Plan) (from packets : ℕ)
+    (list : List Entry) (ds : List Draw) (items : List ClaimItem) → IsEnded plan packets list ds
     → AllZip (IsItem s g set from) (filter (is_packet packets) ds) items
     → AreCounted from (from + packets) items
-items_counted s g set from packets list ds items ended made =
+items_counted s g set plan from packets list ds items ended made =
     let by : (k : ℕ) → count_by (has_number k) items
     ≡ count_by (λ d. eqb (from + d.number) k) (filter (is_packet packets) ds) =
     λ k. count_zip (IsItem s g set from) (λ d. eqb (from + d.number) k) (has_number k)
@@ -124,7 +128,7 @@ items_counted s g set from packets list ds items ended made =
           (is_number x) ds
           (λ d. ap (λ (y : ℕ). eqb (from + d.number) y) (sym at) ∙ same_number from d.number x)
           (λ d hit. lt-ltb d.number packets (omega (arith, eqb-true d.number x hit, at, high)))
-          ∙ drawn_once s from packets list ds x ended (omega (arith, at, high));
+          ∙ drawn_once plan packets list ds x ended (omega (arith, at, high));
       none = λ k out.
           by k
           ∙ none_passed (λ (d : Draw). eqb (from + d.number) k) (is_packet packets) ds
@@ -144,23 +148,29 @@ pub record AreItems (s : SetupParts) (g : Gathering) (blocks : Blocks) (last : L
   pub claimed : AllByRecursion (IsClaimed s g last blocks) items
 
 lap_claimed : (s : SetupParts) (g : Gathering) (blocks : Blocks) (m : ℕ) (last : List JournalCall)
-    (l : Lap) (d : Draw) (item : ClaimItem) → HasOutputs s → IsLegalJournal s m last
+    (l : Lap) (d : Draw) (item : ClaimItem) → HasShape s → IsLegalJournal s m last
     → IsWithLater l.journal (first_claim s l + l.made) last
-    → (lap : IsLap s g blocks l) → IsGood s (first_claim s l) l.made lap.list d → d.number < l.made
+    → (lap : IsLap s g blocks l) → IsGood lap.plan lap.list lap.ended.drawn d
+    → d.number < l.made
     → IsItem s g lap.set (first_claim s l) d item → IsClaimed s g last blocks item
 lap_claimed s g blocks m last l d item some legal goes lap good early is =
     let n : ℕ = length s.device.outputs in
     let k : ℕ = first_claim s l + d.number in
     let first : s.device.base + l.before ≤ tick_of_claim s k =
-    omega (arith, tick_from n l.before d.number some) in
+    omega (arith, tick_from n l.before d.number some.0) in
     let past : tick_of_claim s k < s.device.base + l.before + l.ticks =
-    omega (arith, tick_to n l.before d.number l.ticks some (omega (arith, early, lap.most))) in
+    omega (
+      arith,
+      tick_to n l.before d.number l.ticks some.0
+          (omega (arith, early, lap.most, lap.packets_are)),
+    ) in
     one_claimed s g lap.set blocks last (first_claim s l) d item
-    (rows_found s m l.before l.made lap.list l.journal last d some legal goes lap.rules good early)
+    (rows_found s lap.plan m l.before l.made lap.ended.drawn lap.list l.journal last d some
+    lap.setup_is lap.from_is legal goes lap.rules good (omega (arith, early, lap.most)) early)
     (λ input lt. lap.fed input (tick_of_claim s k) lt first past) is
 
 pub lap_items : (s : SetupParts) (g : Gathering) (blocks : Blocks) (m : ℕ) (last : List JournalCall)
-    (l : Lap) → HasOutputs s → IsLegalJournal s m last
+    (l : Lap) → HasShape s → IsLegalJournal s m last
     → IsWithLater l.journal (first_claim s l + l.made) last
     → IsLap s g blocks l
     → AreItems s g blocks last (first_claim s l) (first_claim s l + l.made) (items_of l.workers)
@@ -172,14 +182,14 @@ lap_items s g blocks m last l some legal goes lap =
     (recursion_from_All (λ (w : Made). Agrees s.device w.looks w.heard lap.set)
     l.workers lap.read) in
     record {
-      counted = items_counted s g lap.set from l.made lap.list ds
+      counted = items_counted s g lap.set lap.plan from l.made lap.list ds
           (items_of l.workers) lap.ended zip;
       claimed =
           zip_all (IsItem s g lap.set from)
-          (λ d. IsGood s from l.made lap.list d × (is_packet l.made d ≡ true))
+          (λ d. IsGood lap.plan lap.list lap.ended.drawn d × (is_packet l.made d ≡ true))
           (IsClaimed s g last blocks) (filter (is_packet l.made) ds) (items_of l.workers) zip
-          (all_passed (IsGood s from l.made lap.list) (is_packet l.made) ds
-          (recursion_from_All (IsGood s from l.made lap.list) ds lap.ended.good))
+          (all_passed (IsGood lap.plan lap.list lap.ended.drawn) (is_packet l.made) ds
+          (recursion_from_All (IsGood lap.plan lap.list lap.ended.drawn) ds lap.ended.good))
           (λ d item good is.
           lap_claimed s g blocks m last l d item some legal goes lap good.0
           (ltb-true d.number l.made good.1) is);

@@ -1,6 +1,6 @@
-use Rattle.interleavings.proofs.Gathered.{closed_item, free_item, known, worked_more, worked_over}
-use Rattle.interleavings.proofs.Gathered.{worked_still}
-use Rattle.interleavings.proofs.headline.packets_are_claims.Goals as goal
+use Rattle.session_laws.proofs.Gathered.{closed_item, free_item, known, worked_more, worked_over}
+use Rattle.session_laws.proofs.Gathered.{worked_still}
+use Rattle.session_laws.proofs.laws.packets_are_claims.Goals as goal
 
 pub returns-clause-closed : goal.returns-clause-closed
 returns-clause-closed c = closed_item

@@ -1,4 +1,5 @@
 -- What a session on running tables leaves is a legal history.
+use Rattle.interleavings.proofs.Shapes.{HasShape}
 use Rattle.std.proofs.Common.{◌≡◌, ℕ, ◌+◌, ◌≤◌, List, [], ◌∷◌, ◌++◌, get_or, Option, Some}
 use Rattle.std.proofs.Common.{refl, sym, ap, subst, ◌∙◌, arith}
 use Rattle.std.specs.Prelude.{All, slice_get, IsPermutation}
@@ -22,19 +23,18 @@ use Rattle.plain_book.specs.Legal.{IsLegalJournal}
 use Rattle.plain_book.proofs.Giving.{given_legal, given_then}
 use Rattle.plain_book.proofs.Lists.{all_append}
 use Rattle.plain_book.proofs.Prefixes.{no_calls}
-use Rattle.plain_book.proofs.Waiting.{HasOutputs}
-use Rattle.interleavings.specs.Facts.{AreLaps, Gathering, IsSession, Lap, form_by, given_in_all}
-use Rattle.interleavings.specs.Facts.{given_in_laps, history_by_given, items_in_laps, items_of}
+use Rattle.session_laws.specs.Facts.{AreLaps, Gathering, IsSession, Lap, form_by, given_in_all}
+use Rattle.session_laws.specs.Facts.{given_in_laps, history_by_given, items_in_laps, items_of}
 use Rattle.interleavings.specs.Legal.{AreClaims, IsClaim, IsLegalHistory, StandsThere, asks_itself}
 use Rattle.interleavings.specs.Legal.{first_floor, says_reply}
 use Rattle.interleavings.specs.Told.{AreSaid, given_to, requests_of}
 use Rattle.interleavings.proofs.Answering.{requests_append}
-use Rattle.interleavings.proofs.FoundRows.{IsWithLater}
-use Rattle.interleavings.proofs.Lapped.{AreItems, IsClaimed, lap_items}
-use Rattle.interleavings.proofs.Numbered.{AreNumbered, counted_shuffled, counted_then, numbered}
-use Rattle.interleavings.proofs.Numbered.{numbered_at, numbered_long}
+use Rattle.session_laws.proofs.FoundRows.{IsWithLater}
+use Rattle.session_laws.proofs.Lapped.{AreItems, IsClaimed, lap_items}
+use Rattle.session_laws.proofs.Numbered.{AreNumbered, counted_shuffled, counted_then, numbered}
+use Rattle.session_laws.proofs.Numbered.{numbered_at, numbered_long}
 use Rattle.interleavings.proofs.Places.{goes_on}
-use Rattle.interleavings.proofs.Telling.{plain_replies, told_replies}
+use Rattle.interleavings.proofs.Telling.{plain_calls, plain_replies, told_calls, told_replies}
 
 -- ---- all laps
 
@@ -67,7 +67,7 @@ behind_lap s g blocks from l ls claims end last late rest after =
 -- the claims of the first of the laps
 pub first_items : (s : SetupParts) (g : Gathering) (blocks : Blocks) (m from : ℕ)
     (journal : List JournalCall) (l : Lap) (ls : List Lap) (claims : ℕ)
-    (end last : List JournalCall) (late : List Given) → HasOutputs s → IsLegalJournal s m last
+    (end last : List JournalCall) (late : List Given) → HasShape s → IsLegalJournal s m last
     → AreGiven s end claims late last claims → AreLaps s g blocks from journal (l ∷ ls) claims end
     → AreItems s g blocks last from (from + l.made) (items_of l.workers)
 first_items s g blocks m from journal l ls claims end last late some legal after are =
@@ -79,7 +79,7 @@ first_items s g blocks m from journal l ls claims end last late some legal after
 
 laps_items : (s : SetupParts) (g : Gathering) (blocks : Blocks) (m from : ℕ)
     (journal : List JournalCall) (laps : List Lap) (claims : ℕ) (end last : List JournalCall)
-    (late : List Given) → HasOutputs s → IsLegalJournal s m last
+    (late : List Given) → HasShape s → IsLegalJournal s m last
     → AreGiven s end claims late last claims → AreLaps s g blocks from journal laps claims end
     → AreItems s g blocks last from claims (items_in_laps laps)
 laps_items s g blocks m from journal [] claims end last late some legal after are =
@@ -171,7 +171,7 @@ session_asks s g blocks m asks laps late last is client =
 
 session_claims : (s : SetupParts) (g : Gathering) (blocks : Blocks) (m : ℕ)
     (asks : ℕ → List Request) (laps : List Lap) (late : List Given) (last : List JournalCall)
-    (claims : List ClaimItem) → HasOutputs s → IsSession s g blocks m asks laps late last
+    (claims : List ClaimItem) → HasShape s → IsSession s g blocks m asks laps late last
     → IsPermutation (items_in_laps laps) claims → IsNonDecreasingBy (λ c. c.k) claims
     → AreClaims s last blocks (form_by s g (entries_of s last) blocks) m claims
 session_claims s g blocks m asks laps late last claims some is moved rises =
@@ -184,7 +184,7 @@ session_claims s g blocks m asks laps late last claims some is moved rises =
 -- the claims in the order of their numbers, the calls, and the replies in order
 pub session_legal : (s : SetupParts) (g : Gathering) (blocks : Blocks) (m : ℕ)
     (asks : ℕ → List Request) (laps : List Lap) (late : List Given) (last : List JournalCall)
-    (claims : List ClaimItem) → HasOutputs s → IsSession s g blocks m asks laps late last
+    (claims : List ClaimItem) → HasShape s → IsSession s g blocks m asks laps late last
     → IsPermutation (items_in_laps laps) claims → IsNonDecreasingBy (λ c. c.k) claims
     → IsLegalHistory s asks_itself says_reply StandsThere m blocks
     (form_by s g (entries_of s last) blocks) asks
@@ -195,13 +195,16 @@ session_legal s g blocks m asks laps late last claims some is moved rises = reco
   replied = plain_replies s last m asks (given_in_all laps late)
       (session_given s g blocks m asks laps late last is)
       (session_asks s g blocks m asks laps late last is);
+  calls = plain_calls s last m asks (given_in_all laps late)
+      (session_given s g blocks m asks laps late last is)
+      (session_asks s g blocks m asks laps late last is);
 }
 
 -- with what is said to asks of any kind
 pub session_told : {A : Type 0} (s : SetupParts) (asked : A → Option Request)
     (says : A → Option Reply → Option Said) (g : Gathering) (blocks : Blocks) (m : ℕ)
     (requests : ℕ → List Request) (asks : ℕ → List A) (laps : List Lap) (late : List Given)
-    (last : List JournalCall) (claims : List ClaimItem) (items : List ReplyItem) → HasOutputs s
+    (last : List JournalCall) (claims : List ClaimItem) (items : List ReplyItem) → HasShape s
     → IsSession s g blocks m requests laps late last → IsPermutation (items_in_laps laps) claims
     → IsNonDecreasingBy (λ c. c.k) claims
     → ((client : ℕ)
@@ -215,4 +218,6 @@ session_told s asked says g blocks m requests asks laps late last claims items s
       claimed = session_claims s g blocks m requests laps late last claims some is moved rises;
       replied = told_replies s asked says last m asks (given_in_all laps late) items
           (session_given s g blocks m requests laps late last is) said order;
+      calls = told_calls s asked says last m asks (given_in_all laps late) items
+          (session_given s g blocks m requests laps late last is) said;
     }

@@ -1,5 +1,8 @@
 -- What a draw found selects for its tick what the whole journal selects in the end; and flags and
 -- packets go over to the journal and to the inputs' blocks.
+use Rattle.map_entry.specs.Tick.{frame_key}
+use Rattle.interleavings.proofs.Shapes.{HasShape}
+use Rattle.std.proofs.Common.{◌^◌}
 use Rattle.std.proofs.Common.{◌≡◌, ℕ, ◌+◌, ◌*◌, ◌/◌, ◌<◌, ◌≤◌, Bool, true, false, List, [], ◌++◌}
 use Rattle.std.proofs.Common.{length, take, drop, Option, inl, inr, refl, sym, ap, subst, ◌∙◌}
 use Rattle.std.proofs.Common.{arith}
@@ -11,11 +14,13 @@ use Rattle.std.proofs.Math.Seq.{take-append_seam, drop-append_seam}
 use Rattle.std.proofs.lemmas.Bool.{cases_lt, false≢true}
 use Rattle.std.proofs.lemmas.Grind.{div_ceil_times}
 use Rattle.std.proofs.lemmas.List.{get_or_past}
-use Rattle.map_entry.specs.Entry.{due, selected}
+use Rattle.map_entry.specs.Entry.{selected}
 use Rattle.map_entry.specs.Setup.{SetupParts}
 use Rattle.map_entry.specs.declared.cell.Cell.{Cell}
 use Rattle.map_entry.specs.declared.entry.Entry.{Entry}
-use Rattle.map_entry.proofs.Selection.{selected-later}
+use Rattle.claim_rule.specs.declared.plan.Plan.{Plan}
+use Rattle.claim_rule.specs.Claims.{tick_of}
+use Rattle.claim_rule.proofs.Ends.{stays_selected}
 use Rattle.packet_writer.specs.Flags.{is_there, names_by}
 use Rattle.packet_writer.specs.Heard.{AreRows}
 use Rattle.packet_writer.specs.Packet.{Blocks, claim_rows, flag_of, output_of_claim, packet_by}
@@ -28,8 +33,10 @@ use Rattle.plain_book.specs.Rows.{SelectsAlike}
 use Rattle.plain_book.specs.Time.{begin}
 use Rattle.plain_book.proofs.Steady.{claimed}
 use Rattle.plain_book.proofs.Waiting.{HasOutputs}
-use Rattle.interleavings.specs.Facts.{Draw, Gathering, IsFedAs, IsGood, form_by}
-use Rattle.interleavings.specs.Facts.Gathering.{GatherClosed, GatherFree}
+use Rattle.claim_rule.specs.Rule.{IsGood}
+use Rattle.claim_rule.specs.declared.view.Draw.{Draw}
+use Rattle.session_laws.specs.Facts.{Gathering, IsFedAs, form_by}
+use Rattle.session_laws.specs.Facts.Gathering.{GatherClosed, GatherFree}
 
 -- ---- ticks
 
@@ -55,10 +62,10 @@ tick_to n before x ticks some lt =
     (div-lt_iff_lt-mul {x = before * n + x} {y = before + ticks} some).1
     (omega (arith, lt, add-mul before ticks n))
 
-begun_before : (s : SetupParts) (before x : ℕ) → HasOutputs s
+begun_before : (s : SetupParts) (before x f : ℕ) → HasOutputs s
     → begin s (before * length s.device.outputs)
-    ≤ tick_of_claim s (before * length s.device.outputs + x)
-begun_before s before x some =
+    ≤ frame_key (tick_of_claim s (before * length s.device.outputs + x)) f
+begun_before s before x f some =
     omega (
       arith,
       ceil_whole (length s.device.outputs) before some,
@@ -73,47 +80,65 @@ IsWithLater before low after = (more : List JournalCall) × (after ≡ before ++
     × All (λ c. low ≤ c.at) more
 
 -- calls after a claim leave its row
-later_leave : (s : SetupParts) (m low : ℕ) (journal last : List JournalCall) (o k : ℕ)
-    → HasOutputs s → IsLegalJournal s m last → IsWithLater journal low last → k < low
-    → selected (entries_of s journal) o (tick_of_claim s k)
-    ≡ selected (entries_of s last) o (tick_of_claim s k)
-later_leave s m low journal last o k some legal goes lt =
+later_leave : (s : SetupParts) (m low : ℕ) (journal last : List JournalCall) (o k f : ℕ)
+    → HasOutputs s → IsLegalJournal s m last → IsWithLater journal low last → k < low → f < 2 ^ 16
+    → selected (entries_of s journal) o (frame_key (tick_of_claim s k) f)
+    ≡ selected (entries_of s last) o (frame_key (tick_of_claim s k) f)
+later_leave s m low journal last o k f some legal goes lt few =
     let front : take (length journal) last ≡ journal =
     ap (take (length journal)) goes.1 ∙ take-append_seam journal goes.0 in
     let behind : drop (length journal) last ≡ goes.0 =
     ap (drop (length journal)) goes.1 ∙ drop-append_seam journal goes.0 in
     let later : All (λ c. k < c.at) goes.0 =
     λ i d within. (let at = goes.2 i d within in omega (arith, at, lt)) in
-    ap (λ (j : List JournalCall). selected (entries_of s j) o (tick_of_claim s k)) (sym front)
-    ∙ sym (claimed s m last o k (length journal) some legal
-    (subst (λ (calls : List JournalCall). All (λ c. k < c.at) calls) (sym behind) later))
-
-found_list : (s : SetupParts) (found rest list : List Entry) (o t : ℕ) → list ≡ found ++ rest
-    → All (λ e. t < due e) rest → selected found o t ≡ selected list o t
-found_list s found rest list o t is late =
-    sym (ap (λ (es : List Entry). selected es o t) is ∙ selected-later due found rest o t late)
+    ap (λ (j : List JournalCall). selected (entries_of s j) o (frame_key (tick_of_claim s k) f))
+    (sym front)
+    ∙ sym (claimed s m last o k (length journal) f some legal
+    (subst (λ (calls : List JournalCall). All (λ c. k < c.at) calls) (sym behind) later) few)
 
 -- the rows of the packets of claim k are alike by these entries and by those
 abbrev pub AreRowsAlike : SetupParts → List Entry → List Entry → ℕ → Type 0
 AreRowsAlike s entries more k =
     AreRows s.device.rate.frames (claim_rows s entries k) (claim_rows s more k)
 
+-- the tick of a number on a table of this setup, which begins with this claim
+pub tick_is : (s : SetupParts) (plan : Plan) (from x : ℕ) → plan.setup ≡ s → plan.from ≡ from
+    → tick_of plan x ≡ tick_of_claim s (from + x)
+tick_is s plan from x setup first =
+    ap (λ (z : SetupParts). tick_of_claim z (plan.from + x)) setup
+    ∙ ap (λ (f : ℕ). tick_of_claim s (f + x)) first
+
+-- what a draw found selects what the whole list selects
+found_list : (s : SetupParts) (plan : Plan) (from drawn : ℕ) (list : List Entry) (d : Draw)
+    (o f : ℕ) → plan.setup ≡ s → plan.from ≡ from → IsGood plan list drawn d
+    → d.number < plan.packets → f < 2 ^ 16
+    → selected d.found o (frame_key (tick_of_claim s (from + d.number)) f)
+    ≡ selected list o (frame_key (tick_of_claim s (from + d.number)) f)
+found_list s plan from drawn list d o f setup first good early few =
+    subst (λ (t : ℕ). selected d.found o (frame_key t f) ≡ selected list o (frame_key t f))
+    (tick_is s plan from d.number setup first)
+    (sym (stays_selected plan list drawn d good early o f few))
+
 -- the rows that a draw found are those of the whole journal
-pub rows_found : (s : SetupParts) (m before made : ℕ) (list : List Entry)
-    (journal last : List JournalCall) (d : Draw) → HasOutputs s → IsLegalJournal s m last
+pub rows_found : (s : SetupParts) (plan : Plan) (m before made drawn : ℕ) (list : List Entry)
+    (journal last : List JournalCall) (d : Draw) → HasShape s → plan.setup ≡ s
+    → plan.from ≡ before * length s.device.outputs → IsLegalJournal s m last
     → IsWithLater journal (before * length s.device.outputs + made) last
     → SelectsAlike s (before * length s.device.outputs) list journal
-    → IsGood s (before * length s.device.outputs) made list d → d.number < made
+    → IsGood plan list drawn d → d.number < plan.packets → d.number < made
     → AreRowsAlike s d.found (entries_of s last) (before * length s.device.outputs + d.number)
-rows_found s m before made list journal last d some legal goes rules good early frame lt =
+rows_found s plan m before made drawn list journal last d some setup first legal goes rules good
+    early done frame lt =
     let k : ℕ = before * length s.device.outputs + d.number in
     let o : ℕ = output_of_claim s k in
     let t : ℕ = tick_of_claim s k in
+    let few : frame < 2 ^ 16 = omega (arith, lt, some.1) in
     ap (λ (r : Option (List Cell)). unwrap_or r [])
-    (found_list s d.found good.rest list o t good.front (good.later early)
-    ∙ rules o t (mod-lt k some) (begun_before s before d.number some)
-    ∙ later_leave s m (before * length s.device.outputs + made) journal last o k some legal goes
-    (omega (arith, early)))
+    (found_list s plan (before * length s.device.outputs) drawn list d o frame setup first good
+    early few
+    ∙ rules o (frame_key t frame) (mod-lt k some.0) (begun_before s before d.number frame some.0)
+    ∙ later_leave s m (before * length s.device.outputs + made) journal last o k frame some.0 legal
+    goes (omega (arith, done)) few)
 
 -- ---- blocks
 

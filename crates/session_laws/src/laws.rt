@@ -2,13 +2,16 @@
 //! each the contract of a function that does nothing. A caller that cites one calls it.
 
 ghost use Rattle.std.specs.Prelude.{◌≤◌, ◌<◌, ◌*◌, [], ℕ, List, length, All, IsPermutation};
-ghost use Rattle.std.specs.Prelude.{None, false};
+ghost use Rattle.std.specs.Prelude.{◌≡◌, min, true};
+ghost use Rattle.claim_rule.specs.declared.plan.Plan.{Plan};
+ghost use Rattle.claim_rule.specs.declared.view.Sight.{Sight};
+ghost use Rattle.claim_rule.specs.Ends.{Ends};
 ghost use Rattle.std.specs.List.{Contains};
 ghost use Rattle.std.specs.List.Sorted.{IsNonDecreasingBy};
 ghost use Rattle.io_caps.specs.declared.device.DeviceParts.{DeviceParts};
 ghost use Rattle.map_entry.specs.declared.entry.Entry.{Entry};
-ghost use Rattle.map_entry.specs.Setup.{SetupParts};
-ghost use Rattle.packet_writer.specs.Flags.{Sights};
+ghost use Rattle.map_entry.specs.Setup.{IsSetup, SetupParts};
+ghost use Rattle.packet_writer.specs.Flags.{Sights, is_there};
 ghost use Rattle.packet_writer.specs.Packet.{Blocks};
 ghost use Rattle.book_words.specs.declared.calls.JournalCall.{JournalCall};
 ghost use Rattle.book_words.specs.declared.given.Given.{Given};
@@ -18,17 +21,20 @@ ghost use Rattle.book_words.specs.declared.history.ReplyItem.{ReplyItem};
 ghost use Rattle.book_words.specs.declared.requests.Request.{Request};
 ghost use Rattle.plain_book.specs.Given.{AreGiven};
 ghost use Rattle.book_words.specs.History.{AreInOrder, history_of};
-ghost use Rattle.interleavings.specs.Facts.{Agrees, AreAllSaid, Draw, Gathering, Heard, Lap, Look};
-ghost use Rattle.interleavings.specs.Facts.{HasSession, IsEnded, IsItem, IsLegalBy, IsSession};
-ghost use Rattle.interleavings.specs.Facts.{IsToldBy, IsWorked, Made};
-ghost use Rattle.interleavings.specs.Facts.{given_in_all, history_by_given, items_in_laps};
-ghost use Rattle.interleavings.specs.Facts.Gathering.{GatherClosed, GatherFree};
+ghost use Rattle.claim_rule.specs.declared.view.Draw.{Draw};
+ghost use Rattle.input_cells.specs.Agreement.{Agrees};
+ghost use Rattle.input_rule.specs.declared.view.HeardSample.{HeardSample};
+ghost use Rattle.input_rule.specs.declared.view.Look.{Look};
+ghost use Rattle.session_laws.specs.Facts.{Gathering, Lap, HasSession, HaveShapes, IsEnded, IsItem};
+ghost use Rattle.session_laws.specs.Facts.{IsLegalBy, IsSession, IsToldBy, IsWorked, Made};
+ghost use Rattle.session_laws.specs.Facts.{given_in_all, history_by_given, items_in_laps};
+ghost use Rattle.session_laws.specs.Facts.Gathering.{GatherClosed, GatherFree};
 ghost use Rattle.interleavings.specs.Legal.{IsClosedHistory, IsFreeHistory};
-ghost use Rattle.interleavings.specs.Steps.{AreHistoryParts, EndsTable, GathersClosed};
-ghost use Rattle.interleavings.specs.Steps.{GathersFree, HasOver, IsSeenBefore, KnowsMore};
-ghost use Rattle.interleavings.specs.Steps.{all_joined, made_more, made_over, made_still};
-ghost use Rattle.interleavings.specs.Steps.{none_made};
-ghost use Rattle.interleavings.specs.Told.{Ask};
+ghost use Rattle.session_laws.specs.Steps.{AreHistoryParts, GathersClosed, GathersFree};
+ghost use Rattle.session_laws.specs.Steps.{IsSeenBefore, KnowsMore};
+ghost use Rattle.session_laws.specs.Steps.{all_joined, made_more, made_over, made_still};
+ghost use Rattle.session_laws.specs.Steps.{none_made};
+ghost use Rattle.interleavings.specs.Told.{AreAllSaid, Ask};
 
 /// What a session on running tables leaves, in one lap or more, is a legal history: the claims of
 /// all workers in the order of their numbers, the calls accepted, and the answers in their order.
@@ -37,12 +43,12 @@ ghost use Rattle.interleavings.specs.Told.{Ask};
 pub fn sessions_are_legal()
     ensures closed { (s : SetupParts) (blocks : Blocks) (m : ℕ) (asks : ℕ → List Request)
         (laps : List Lap) (late : List Given) (last : List JournalCall) (claims : List ClaimItem)
-        → 0 < length s.device.outputs → IsSession s GatherClosed blocks m asks laps late last
+        → IsSetup s → IsSession s GatherClosed blocks m asks laps late last
         → IsPermutation (items_in_laps laps) claims → IsNonDecreasingBy (λ c. c.k) claims
         → IsClosedHistory s m blocks asks (history_by_given claims (given_in_all laps late) last) }
     ensures free { (s : SetupParts) (seen : Sights) (blocks : Blocks) (m : ℕ)
         (asks : ℕ → List Request) (laps : List Lap) (late : List Given) (last : List JournalCall)
-        (claims : List ClaimItem) → 0 < length s.device.outputs
+        (claims : List ClaimItem) → IsSetup s
         → IsSession s (GatherFree seen) blocks m asks laps late last
         → IsPermutation (items_in_laps laps) claims → IsNonDecreasingBy (λ c. c.k) claims
         → IsFreeHistory s m blocks seen asks
@@ -55,7 +61,7 @@ pub fn told_sessions_are_legal()
     ensures { (s : SetupParts) (g : Gathering) (blocks : Blocks) (m : ℕ)
         (requests : ℕ → List Request) (asks : ℕ → List Ask) (laps : List Lap) (late : List Given)
         (last : List JournalCall) (claims : List ClaimItem) (items : List ReplyItem)
-        → 0 < length s.device.outputs → IsSession s g blocks m requests laps late last
+        → IsSetup s → IsSession s g blocks m requests laps late last
         → IsPermutation (items_in_laps laps) claims → IsNonDecreasingBy (λ c. c.k) claims
         → AreAllSaid asks (given_in_all laps late) items → AreInOrder items
         → IsToldBy s g m blocks asks (history_of claims last items) }
@@ -66,7 +72,7 @@ pub fn told_sessions_are_legal()
 pub fn joined_parts_are_legal()
     ensures { (s : SetupParts) (g : Gathering) (blocks : Blocks) (m : ℕ)
         (asks : ℕ → List Request) (laps : List Lap) (late : List Given) (last : List JournalCall)
-        (parts : List History) → 0 < length s.device.outputs
+        (parts : List History) → IsSetup s
         → IsSession s g blocks m asks laps late last → AreHistoryParts [] laps late last parts
         → IsLegalBy s g m blocks asks (all_joined parts) }
 {}
@@ -76,20 +82,21 @@ pub fn joined_parts_are_legal()
 /// one past the packets, or looks alone.
 pub fn packets_are_claims()
     ensures closed { (s : SetupParts) (from : ℕ) (d : Draw) (looks : List Look)
-        (heard : List Heard) (item : ClaimItem) (blocks : Blocks)
+        (heard : List HeardSample) (item : ClaimItem) (blocks : Blocks)
         → GathersClosed s from d looks heard item → Agrees s.device looks heard blocks
         → IsItem s GatherClosed blocks from d item }
     ensures free { (s : SetupParts) (seen : Sights) (from : ℕ) (d : Draw)
-        (before looks : List Look) (heard : List Heard) (item : ClaimItem) (blocks : Blocks)
+        (before looks : List Look) (heard : List HeardSample) (item : ClaimItem) (blocks : Blocks)
         → GathersFree s from d before looks heard item → IsSeenBefore s seen before item.k
         → Agrees s.device looks heard blocks → IsItem s (GatherFree seen) blocks from d item }
-    ensures known { (d : DeviceParts) (looks more : List Look) (heard further : List Heard)
+    ensures known { (d : DeviceParts) (looks more : List Look) (heard further : List HeardSample)
         → All (Contains more) looks → All (Contains further) heard
         → KnowsMore d looks heard more further }
     ensures none { (s : SetupParts) (g : Gathering) (from packets : ℕ)
         → IsWorked s g from packets none_made }
     ensures more { (s : SetupParts) (g : Gathering) (from packets : ℕ) (w : Made) (d : Draw)
-        (looks : List Look) (heard : List Heard) (item : ClaimItem) → IsWorked s g from packets w
+        (looks : List Look) (heard : List HeardSample) (item : ClaimItem)
+        → IsWorked s g from packets w
         → d.number < packets → KnowsMore s.device w.looks w.heard looks heard
         → ((blocks : Blocks) → Agrees s.device looks heard blocks → IsItem s g blocks from d item)
         → IsWorked s g from packets (made_more w d looks heard item) }
@@ -97,30 +104,32 @@ pub fn packets_are_claims()
         → IsWorked s g from packets w → packets ≤ d.number
         → IsWorked s g from packets (made_over w d) }
     ensures still { (s : SetupParts) (g : Gathering) (from packets : ℕ) (w : Made)
-        (looks : List Look) (heard : List Heard) → IsWorked s g from packets w
+        (looks : List Look) (heard : List HeardSample) → IsWorked s g from packets w
         → KnowsMore s.device w.looks w.heard looks heard
         → IsWorked s g from packets (made_still w looks heard) }
 {}
 
-/// The end of a table of claims, of which one pass is over, tells that each of its packets was
-/// drawn once.
+/// The end of a table of claims tells what a lap asks of its draws: all packets are claimed where
+/// all were drawn, and as many as were drawn where the table ends early.
 pub fn tables_end()
-    ensures { (s : SetupParts) (from packets : ℕ) (list : List Entry) (draws : List Draw)
-        → EndsTable s from packets list draws → HasOver packets draws
-        → IsEnded s from packets list draws }
+    ensures whole { (plan : Plan) (list : List Entry) (draws : List Draw) (seen : List Sight)
+        → Ends plan list draws seen → plan.packets ≤ length draws
+        → IsEnded plan plan.packets list draws }
+    ensures part { (plan : Plan) (list : List Entry) (draws : List Draw) (seen : List Sight)
+        → Ends plan list draws seen → IsEnded plan (min (length draws) plan.packets) list draws }
 {}
 
-/// For any answers of a book there is a session that leaves just these, in closed form over no
-/// blocks and in free form over any: what is said of sessions is not said of nothing.
+/// For any answers of a book, and over any blocks of their inputs' shapes, there is a session that
+/// leaves just these, in closed form, and in free form by whatever was seen of the blocks that are
+/// there: what is said of sessions is not said of nothing.
 pub fn sessions_can_be()
-    ensures closed { (s : SetupParts) (ticks : ℕ) (given : List Given)
-        (journal : List JournalCall)
+    ensures closed { (s : SetupParts) (blocks : Blocks) (ticks : ℕ) (given : List Given)
+        (journal : List JournalCall) → HaveShapes s.device blocks
         → AreGiven s [] 0 given journal (ticks * length s.device.outputs)
-        → HasSession s GatherClosed (λ input tick. None)
-        (ticks * length s.device.outputs) given journal }
-    ensures free { (s : SetupParts) (blocks : Blocks) (ticks : ℕ) (given : List Given)
-        (journal : List JournalCall)
+        → HasSession s GatherClosed blocks (ticks * length s.device.outputs) given journal }
+    ensures free { (s : SetupParts) (seen : Sights) (blocks : Blocks) (ticks : ℕ)
+        (given : List Given) (journal : List JournalCall) → HaveShapes s.device blocks
+        → ((k input : ℕ) → seen k input ≡ true → is_there s blocks k input ≡ true)
         → AreGiven s [] 0 given journal (ticks * length s.device.outputs)
-        → HasSession s (GatherFree (λ claim input. false)) blocks
-        (ticks * length s.device.outputs) given journal }
+        → HasSession s (GatherFree seen) blocks (ticks * length s.device.outputs) given journal }
 {}

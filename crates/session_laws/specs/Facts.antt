@@ -1,31 +1,33 @@
 -- What running tables and their book leave once every job is back: facts on plain values, each told
 -- by single calls or kept by a job. A session on tables that go on one after the other, in laps,
 -- has one lap or more. (This project's own.)
-use Rattle.std.specs.Prelude.{◌≡◌, ℕ, ◌+◌, ◌*◌, ◌<◌, ◌≤◌, ◌==◌, nat_le, nat_lt, cond, Bool, true}
-use Rattle.std.specs.Prelude.{false, List, [], ◌∷◌, ◌++◌, length, filter, sum_by, All, Option, None}
-use Rattle.std.specs.Prelude.{IfSome, is_some, ℤ}
+use Rattle.std.specs.Prelude.{◌≡◌, ℕ, ◌+◌, ◌*◌, ◌<◌, ◌≤◌, nat_lt, Bool, true, List, [], ◌∷◌, ◌++◌}
+use Rattle.std.specs.Prelude.{length, filter, All, Option, IfSome, is_some, ℤ}
 use Rattle.std.specs.List.{AllZip}
 use Rattle.io_caps.specs.declared.device.DeviceParts.{DeviceParts}
 use Rattle.map_entry.specs.declared.entry.Entry.{Entry}
-use Rattle.map_entry.specs.Entry.{due}
 use Rattle.map_entry.specs.Row.{channels_of}
 use Rattle.map_entry.specs.Setup.{SetupParts}
 use Rattle.packet_writer.specs.Flags.{AreClosed, AreFree, Sights}
-use Rattle.packet_writer.specs.Heard.{sample_in}
-use Rattle.packet_writer.specs.Packet.{Blocks, packet_by, tick_of_claim}
+use Rattle.packet_writer.specs.Packet.{Blocks, packet_by}
+use Rattle.claim_rule.specs.declared.plan.Plan.{Plan}
+use Rattle.claim_rule.specs.declared.view.Draw.{Draw}
+use Rattle.claim_rule.specs.Rule.{IsGood}
+use Rattle.claim_rule.specs.Views.{once_below, times}
+use Rattle.input_rule.specs.declared.view.HeardSample.{HeardSample}
+use Rattle.input_rule.specs.declared.view.Look.{Look}
+use Rattle.input_cells.specs.Agreement.{Agrees}
 use Rattle.book_words.specs.declared.calls.JournalCall.{JournalCall}
 use Rattle.book_words.specs.declared.given.Given.{Given}
 use Rattle.book_words.specs.declared.history.ClaimItem.{ClaimItem}
 use Rattle.book_words.specs.declared.history.History.{History}
-use Rattle.book_words.specs.declared.history.ReplyItem.{ReplyItem}
 use Rattle.book_words.specs.declared.requests.Request.{Request}
+use Rattle.book_words.specs.History.{history_of}
 use Rattle.plain_book.specs.Given.{AreGiven, replies_of}
-use Rattle.book_words.specs.History.{history_of, replies_to}
 use Rattle.plain_book.specs.Journal.{entries_of}
 use Rattle.plain_book.specs.Rows.{SelectsAlike}
-use Rattle.interleavings.specs.Legal.{Form, IsLegalHistory, StandsThere, asks_itself, first_floor}
-use Rattle.interleavings.specs.Legal.{says_reply}
-use Rattle.interleavings.specs.Told.{AreSaid, Ask, given_to, requests_of}
+use Rattle.interleavings.specs.Legal.{Form, IsLegalHistory, StandsThere, asks_itself, says_reply}
+use Rattle.interleavings.specs.Told.{Ask, requests_of}
 
 -- ---- two ways to gather
 
@@ -48,67 +50,24 @@ IsFedAs (GatherFree seen) set block = is_some set ≡ true → set ≡ block
 
 -- ---- draws on a table of claims
 
--- a number drawn, counted from the table's first, and the entries that were published then
-pub record Draw : Type 0 where
-  pub number : ℕ
-  pub found : List Entry
-
--- after the entries that a draw found, the table's list has entries that count from ticks after
--- that of the draw alone
-pub record IsGood (s : SetupParts) (from packets : ℕ) (list : List Entry) (d : Draw) : Type 0 where
-  pub rest : List Entry
-  pub front : list ≡ d.found ++ rest
-  pub later : d.number < packets → All (λ e. tick_of_claim s (from + d.number) < due e) rest
-
--- 1 for a draw of a number
-abbrev pub is_at : ℕ → Draw → ℕ
-is_at number d = cond (d.number == number) 1 0
-
--- how often a number stands among draws
-abbrev pub times : ℕ → List Draw → ℕ
-times number draws = sum_by (is_at number) draws
-
--- 1 for a number below the bound, and 0 from it on
-abbrev pub once_below : ℕ → ℕ → ℕ
-once_below number bound = cond (nat_le bound number) 0 1
-
--- All draws on a table whose list is this one, whose first claim is `from` and which is for a given
--- number of packets: each is good, each number below those drawn stands once among them, and no
--- other; and every packet was drawn.
-pub record IsEnded (s : SetupParts) (from packets : ℕ) (list : List Entry) (draws : List Draw)
+-- All draws on a table with this list, of whose packets a given number were claimed: each is good,
+-- each number below those drawn stands once among them, and no other; and that many packets were
+-- drawn.
+pub record IsEnded (plan : Plan) (made : ℕ) (list : List Entry) (draws : List Draw)
     : Type 0 where
   pub drawn : ℕ
-  pub good : All (IsGood s from packets list) draws
+  pub good : All (IsGood plan list drawn) draws
   pub once : (number : ℕ) → times number draws ≡ once_below number drawn
-  pub full : packets ≤ drawn
+  pub full : made ≤ drawn
 
--- ---- what was seen of the inputs' tables
+-- ---- the inputs' blocks
 
--- a look at the block of an input at a tick, and the closing number that had been seen before it
-pub record Look : Type 0 where
-  pub input : ℕ
-  pub tick : ℕ
-  pub present : Bool
-  pub closed : ℕ
-
--- a sample that was read, at a place of the block of an input at a tick
-pub record Heard : Type 0 where
-  pub input : ℕ
-  pub tick : ℕ
-  pub place : ℕ
-  pub value : ℤ
-
--- Blocks agree with what was seen: a block that was seen is there; one that was missed after a
--- closing number above its tick is not; the samples that were read are those of the block; and a
--- block that is there has the shape of its input.
-pub record Agrees (d : DeviceParts) (looks : List Look) (heard : List Heard) (blocks : Blocks)
-    : Type 0 where
-  pub seen : All (λ l. l.present ≡ true → is_some (blocks l.input l.tick) ≡ true) looks
-  pub missed : All (λ l. l.present ≡ false → l.tick < l.closed → blocks l.input l.tick ≡ None) looks
-  pub read : All (λ h. sample_in (blocks h.input h.tick) h.place ≡ h.value) heard
-  pub shape : (input tick : ℕ) → input < length d.inputs
-      → IfSome (blocks input tick)
-      (λ samples. length samples ≡ d.rate.frames * channels_of d.inputs input)
+-- each block that is there has the shape of its input
+abbrev pub HaveShapes : DeviceParts → Blocks → Type 0
+HaveShapes d blocks =
+    (input tick : ℕ) → input < length d.inputs
+    → IfSome (blocks input tick)
+    (λ samples. length samples ≡ d.rate.frames * channels_of d.inputs input)
 
 -- At a given number of ticks from a first one on, the blocks that were set are the inputs' as the
 -- way to gather asks.
@@ -123,7 +82,7 @@ IsFed s g first ticks set blocks =
 pub record Made : Type 0 where
   pub draws : List Draw
   pub looks : List Look
-  pub heard : List Heard
+  pub heard : List HeardSample
   pub items : List ClaimItem
 
 -- the draws of all workers
@@ -176,10 +135,14 @@ first_claim s l = l.before * length s.device.outputs
 -- ends early, fewer. The list of the table of claims selects what the journal at the lap's end
 -- selects; and the blocks set agree with what each worker saw, and are the inputs'.
 pub record IsLap (s : SetupParts) (g : Gathering) (blocks : Blocks) (l : Lap) : Type 0 where
-  pub most : l.made ≤ l.ticks * length s.device.outputs
+  pub plan : Plan
+  pub setup_is : plan.setup ≡ s
+  pub from_is : plan.from ≡ first_claim s l
+  pub packets_are : plan.packets ≡ l.ticks * length s.device.outputs
+  pub most : l.made ≤ plan.packets
   pub list : List Entry
   pub set : Blocks
-  pub ended : IsEnded s (first_claim s l) l.made list (draws_of l.workers)
+  pub ended : IsEnded plan l.made list (draws_of l.workers)
   pub rules : SelectsAlike s (first_claim s l) list l.journal
   pub worked : All (IsWorked s g (first_claim s l) l.made) l.workers
   pub read : All (λ w. Agrees s.device w.looks w.heard set) l.workers
@@ -239,12 +202,6 @@ abbrev pub IsToldBy : SetupParts → Gathering → ℕ → Blocks → (ℕ → L
 IsToldBy s g claims blocks asks h =
     IsLegalHistory s (λ ask. ask.asked) (λ ask. ask.says) StandsThere claims blocks
     (form_by s g (entries_of s h.journal) blocks) asks h
-
--- the items tell each client what is said to its asks of any kind, for these answers
-abbrev pub AreAllSaid : (ℕ → List Ask) → List Given → List ReplyItem → Type 0
-AreAllSaid asks given items =
-    (client : ℕ) → AreSaid (λ ask. ask.asked) (λ ask. ask.says) first_floor (asks client)
-    (given_to client given) (replies_to client items)
 
 -- there is a session of a given number of claims over blocks, which leaves these answers, this
 -- journal, and no ask

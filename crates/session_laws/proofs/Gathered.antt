@@ -12,17 +12,20 @@ use Rattle.packet_writer.specs.Flags.{Sights, names_by}
 use Rattle.packet_writer.specs.Heard.{sample_in}
 use Rattle.packet_writer.specs.Packet.{Blocks, flag_of, tick_of_claim}
 use Rattle.book_words.specs.declared.history.ClaimItem.{ClaimItem}
-use Rattle.interleavings.specs.Facts.{Agrees, Draw, Gathering, Heard, IsItem, IsWorked, Look, Made}
-use Rattle.interleavings.specs.Facts.{is_packet}
-use Rattle.interleavings.specs.Facts.Gathering.{GatherClosed, GatherFree}
-use Rattle.interleavings.specs.Steps.{GathersClosed, GathersFree, HasMissed, HasSeen, IsSeenBefore}
-use Rattle.interleavings.specs.Steps.{KnowsMore, LookedClosed, LookedFree, made_more, made_over}
-use Rattle.interleavings.specs.Steps.{made_still}
+use Rattle.claim_rule.specs.declared.view.Draw.{Draw}
+use Rattle.input_cells.specs.Agreement.{Agrees}
+use Rattle.input_rule.specs.declared.view.HeardSample.{HeardSample}
+use Rattle.input_rule.specs.declared.view.Look.{Look}
+use Rattle.session_laws.specs.Facts.{Gathering, IsItem, IsWorked, Made, is_packet}
+use Rattle.session_laws.specs.Facts.Gathering.{GatherClosed, GatherFree}
+use Rattle.session_laws.specs.Steps.{FlagClosed, FlagFree, GathersClosed, GathersFree, IsSeenBefore}
+use Rattle.session_laws.specs.Steps.{KnowsMore, MissedBlock, SawBlock, made_more, made_over}
+use Rattle.session_laws.specs.Steps.{made_still}
 
 -- ---- what was seen
 
 -- a view that has all looks and samples of another one knows more
-pub known : (d : DeviceParts) (looks more : List Look) (heard further : List Heard)
+pub known : (d : DeviceParts) (looks more : List Look) (heard further : List HeardSample)
     → All (Contains more) looks → All (Contains further) heard
     → KnowsMore d looks heard more further
 known d looks more heard further looked read blocks is = record {
@@ -33,14 +36,15 @@ known d looks more heard further looked read blocks is = record {
       All-contains
       (λ (l : Look). l.present ≡ false → l.tick < l.closed → blocks l.input l.tick ≡ None) more
       (get_or looks i e) is.missed (looked i e lt);
-  read = λ i e lt. All-contains (λ (h : Heard). sample_in (blocks h.input h.tick) h.place ≡ h.value)
+  read = λ i e lt. All-contains (λ (h : HeardSample). sample_in (blocks h.input h.tick) h.place
+      ≡ h.value)
       further (get_or heard i e) is.read (read i e lt);
   shape = is.shape;
 }
 
 -- a block that was seen is there
-seen_there : (d : DeviceParts) (looks : List Look) (heard : List Heard) (blocks : Blocks)
-    (input tick : ℕ) → Agrees d looks heard blocks → HasSeen looks input tick
+seen_there : (d : DeviceParts) (looks : List Look) (heard : List HeardSample) (blocks : Blocks)
+    (input tick : ℕ) → Agrees d looks heard blocks → SawBlock looks input tick
     → is_some (blocks input tick) ≡ true
 seen_there d looks heard blocks input tick is saw =
     ap (λ (i : ℕ). is_some (blocks i tick)) (sym saw.input_is)
@@ -49,8 +53,8 @@ seen_there d looks heard blocks input tick is saw =
     saw.look is.seen saw.among saw.saw_it
 
 -- one that was missed at a closed tick is not
-missed_none : (d : DeviceParts) (looks : List Look) (heard : List Heard) (blocks : Blocks)
-    (input tick : ℕ) → Agrees d looks heard blocks → HasMissed looks input tick
+missed_none : (d : DeviceParts) (looks : List Look) (heard : List HeardSample) (blocks : Blocks)
+    (input tick : ℕ) → Agrees d looks heard blocks → MissedBlock looks input tick
     → is_some (blocks input tick) ≡ false
 missed_none d looks heard blocks input tick is missed =
     ap (λ (i : ℕ). is_some (blocks i tick)) (sym missed.input_is)
@@ -63,15 +67,16 @@ missed_none d looks heard blocks input tick is missed =
 
 -- ---- closed form
 
-closed_flag : (d : DeviceParts) (looks : List Look) (heard : List Heard) (blocks : Blocks)
+closed_flag : (d : DeviceParts) (looks : List Look) (heard : List HeardSample) (blocks : Blocks)
     (input tick : ℕ) (flag : Bool) → Agrees d looks heard blocks
-    → LookedClosed looks input tick flag → flag ≡ is_some (blocks input tick)
+    → FlagClosed looks input tick flag → flag ≡ is_some (blocks input tick)
 closed_flag d looks heard blocks input tick true is looked =
     sym (seen_there d looks heard blocks input tick is looked)
 closed_flag d looks heard blocks input tick false is looked =
     sym (missed_none d looks heard blocks input tick is looked)
 
-pub closed_item : (s : SetupParts) (from : ℕ) (d : Draw) (looks : List Look) (heard : List Heard)
+pub closed_item : (s : SetupParts) (from : ℕ) (d : Draw) (looks : List Look)
+    (heard : List HeardSample)
     (item : ClaimItem) (blocks : Blocks) → GathersClosed s from d looks heard item
     → Agrees s.device looks heard blocks
     → IsItem s GatherClosed blocks from d item
@@ -91,15 +96,15 @@ closed_item s from d looks heard item blocks g is = record {
 
 -- ---- free form
 
-free_there : (d : DeviceParts) (looks : List Look) (heard : List Heard) (blocks : Blocks)
-    (input tick : ℕ) (flag : Bool) → Agrees d looks heard blocks → LookedFree looks input tick flag
+free_there : (d : DeviceParts) (looks : List Look) (heard : List HeardSample) (blocks : Blocks)
+    (input tick : ℕ) (flag : Bool) → Agrees d looks heard blocks → FlagFree looks input tick flag
     → flag ≡ true → is_some (blocks input tick) ≡ true
 free_there d looks heard blocks input tick true is looked on =
     seen_there d looks heard blocks input tick is looked
 free_there d looks heard blocks input tick false is looked on = absurd (false≢true on)
 
 pub free_item : (s : SetupParts) (seen : Sights) (from : ℕ) (d : Draw) (before looks : List Look)
-    (heard : List Heard) (item : ClaimItem) (blocks : Blocks)
+    (heard : List HeardSample) (item : ClaimItem) (blocks : Blocks)
     → GathersFree s from d before looks heard item → IsSeenBefore s seen before item.k
     → Agrees s.device looks heard blocks → IsItem s (GatherFree seen) blocks from d item
 free_item s seen from d before looks heard item blocks g saw is = record {
@@ -132,7 +137,7 @@ zip_push R (a ∷ xs) (b ∷ ys) x y all one = (all.0, zip_push R xs ys x y all.
 
 -- one more draw with its claim
 pub worked_more : (s : SetupParts) (g : Gathering) (from packets : ℕ) (w : Made) (d : Draw)
-    (looks : List Look) (heard : List Heard) (item : ClaimItem) → IsWorked s g from packets w
+    (looks : List Look) (heard : List HeardSample) (item : ClaimItem) → IsWorked s g from packets w
     → d.number < packets → KnowsMore s.device w.looks w.heard looks heard
     → ((blocks : Blocks) → Agrees s.device looks heard blocks → IsItem s g blocks from d item)
     → IsWorked s g from packets (made_more w d looks heard item)
@@ -156,7 +161,7 @@ worked_over s g from packets w d is late blocks agrees =
 
 -- looks alone, as of a call that was refused, change nothing
 pub worked_still : (s : SetupParts) (g : Gathering) (from packets : ℕ) (w : Made)
-    (looks : List Look) (heard : List Heard) → IsWorked s g from packets w
+    (looks : List Look) (heard : List HeardSample) → IsWorked s g from packets w
     → KnowsMore s.device w.looks w.heard looks heard
     → IsWorked s g from packets (made_still w looks heard)
 worked_still s g from packets w looks heard is more blocks agrees = is blocks (more blocks agrees)
