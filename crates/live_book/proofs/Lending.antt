@@ -21,6 +21,7 @@ use Rattle.live_book.specs.Books.{BookFace, last_raw}
 use Rattle.live_book.specs.Lent.{HeardMore, IsFewLoads}
 use Rattle.live_book.specs.Tries.{AreBelow, GoesOn, IsLoadedLast, IsLoadedOnce, IsMoved, IsSame}
 use Rattle.live_book.specs.Tries.{answer_entries}
+use Rattle.live_book.specs.Places.{PlacesFace, answer_places, spent}
 use Rattle.live_book.proofs.Sights.{last_push}
 
 pub record IsTrying (t : TableFace) (b c : BookFace) (p q : ClientFace) (n : ℕ) : Type 0 where
@@ -28,6 +29,7 @@ pub record IsTrying (t : TableFace) (b c : BookFace) (p q : ClientFace) (n : ℕ
   pub of_pass : IsClientOf t q
   pub goes_on : GoesOn b c
   pub same : IsSame b c
+  pub places : c.places ≡ b.places
   pub heard : HeardMore p q
   pub earlier : List Sight
   pub sights : c.publisher.view.sights ≡ b.publisher.view.sights ++ earlier
@@ -41,7 +43,8 @@ pub trying_new : (t : TableFace) (b : BookFace) (p : ClientFace) → IsPublisher
 trying_new t b p of of_pass = record {
   of = of;
   of_pass = of_pass;
-  goes_on = record { setup = refl; publisher = refl; plan = refl };
+  goes_on = record { setup = refl; publisher = refl; plan = refl; begun = refl };
+  places = refl;
   same = record { entries = refl; journal = refl; given = refl };
   heard = record {
     id = refl;
@@ -65,6 +68,7 @@ goes_since b c d one two = record {
   publisher = two.publisher ∙ ap (λ (f : PublisherFace). record f { view = d.publisher.view })
       one.publisher;
   plan = two.plan ∙ one.plan;
+  begun = two.begun ∙ one.begun;
 }
 
 pub same_since : (b c d : BookFace) → IsSame b c → IsSame c d → IsSame b d
@@ -89,9 +93,10 @@ heard_since p q r w one is = record {
 -- one more without an answer, since a number was drawn
 pub trying_more : (t : TableFace) (b c d : BookFace) (p q r : ClientFace) (n claims : ℕ)
     → IsTrying t b c p q n → IsPublisherOf t d.publisher → IsClientOf t r → IsSame c d → GoesOn c d
+    → d.places ≡ c.places
     → r ≡ record q { view = noted q.view (note d.publisher.view) }
     → IsMoved c.publisher.view d.publisher.view claims → IsTrying t b d p r (n + 1)
-trying_more t b c d p q r n claims trying of of_pass same goes_on heard moved =
+trying_more t b c d p q r n claims trying of of_pass same goes_on places heard moved =
     let k : ℕ = length c.publisher.view.entries in
     let one : Sight = sight moved.first k in
     let two : Sight = sight moved.raw k in
@@ -109,6 +114,7 @@ trying_more t b c d p q r n claims trying of of_pass same goes_on heard moved =
       of_pass = of_pass;
       goes_on = goes_since b c d trying.goes_on goes_on;
       same = same_since b c d trying.same same;
+      places = places ∙ trying.places;
       heard = heard_since p q r d.publisher.view trying.heard heard;
       earlier = trying.earlier ++ one ∷ two ∷ [];
       sights = sights;
@@ -185,3 +191,15 @@ few_since t b c d p q n x trying is =
       trying.long,
       trying.few,
     )
+
+pub spent_since : (b c d : BookFace) (client claims : ℕ) (request : Request) (reply : Reply)
+    → GoesOn b c → IsSame b c → c.places ≡ b.places
+    → d.places ≡ spent c.places client (answer_places c.setup c.journal client claims request reply)
+    → d.places ≡ spent b.places client (answer_places b.setup b.journal client claims request reply)
+spent_since b c d client claims request reply goes_on same places is =
+    is
+    ∙ ap (λ (pl : PlacesFace).
+    spent pl client (answer_places c.setup c.journal client claims request reply)) places
+    ∙ ap (λ (z : SetupParts × List JournalCall).
+    spent b.places client (answer_places z.0 z.1 client claims request reply))
+    (λ k. (goes_on.setup k, same.journal k))

@@ -140,3 +140,17 @@ next_is b c old new client request reply stamp low first left given asked = reco
   calls = option_to_list (call_of b.setup b.journal client stamp.claims request reply);
   journal = asked.journal;
 }
+
+-- the same from a book that differs in its places alone
+pub next_from : (a b c : BookFace) (old new : List (List Request)) (client : ℕ)
+    → b ≡ record a { places = b.places } → IsNextAnswered client b c old new
+    → IsNextAnswered client a c old new
+next_from a b c old new client same next = record {
+  answer = next.answer;
+  by = next.by;
+  given = next.given ∙ ap (λ (z : BookFace). z.given ++ next.answer ∷ []) same;
+  asks = next.asks;
+  left = next.left;
+  calls = next.calls;
+  journal = next.journal ∙ ap (λ (z : BookFace). z.journal ++ next.calls) same;
+}

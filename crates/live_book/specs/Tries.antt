@@ -109,9 +109,10 @@ pub record IsSame (b c : BookFace) : Type 0 where
   pub journal : c.journal ≡ b.journal
   pub given : c.given ≡ b.given
 
--- whatever comes, the book is of the same setup, and its publisher that of the same table, which
--- has made as many passes
+-- whatever comes, the book is of the same setup, its publisher is that of the same table, which has
+-- made as many passes, and as many calls stand before the table
 pub record GoesOn (b c : BookFace) : Type 0 where
   pub setup : c.setup ≡ b.setup
   pub publisher : c.publisher ≡ record b.publisher { view = c.publisher.view }
   pub plan : c.publisher.view.plan ≡ b.publisher.view.plan
+  pub begun : c.begun ≡ b.begun

@@ -1,19 +1,23 @@
 //! One try to answer a request, at what the publisher sees now.
 
-ghost use Rattle.std.specs.Prelude.{◌≡◌, ◌<◌, ◌≤◌, ◌++◌, ◌∷◌, [], length, IfErr, IfOk, OnErr, OnOk};
+ghost use Rattle.std.specs.Prelude.{◌≡◌, ◌+◌, ◌<◌, ◌≤◌, ◌++◌, ◌∷◌, [], length, true};
+ghost use Rattle.std.specs.Prelude.{IfErr, IfOk, OnErr, OnOk};
 ghost use Rattle.claim_word.specs.Faces.{IsPublisherOf};
 ghost use Rattle.claim_word.specs.States.{HasSeen, IsPublished};
 ghost use Rattle.plain_book.specs.Desk.{IsMade, parts, settled, staged};
 ghost use Rattle.plain_book.specs.Given.{given_item};
+ghost use Rattle.io_caps.specs.declared.limits.TheConstants.{PLACES};
 ghost use Rattle.live_book.specs.Books.{IsBook};
+ghost use Rattle.live_book.specs.Places.{answer_places, is_aside, spent};
 ghost use Rattle.live_book.specs.Tries.{IsMissedBy, IsStill, IsTry, IsUnder};
 
+use crate::places::Places;
 use claim_word::{ClaimTable, Publisher, State};
 use io_caps::{NoMemory, TryCopy};
 use map_entry::Setup;
 use plain_book::{
-    Decided, Given, GivenItems, Kept, Made, Reply, Request, Stamp, decide, look, settle, stage,
-    unstage,
+    Acceptance, BookState, Decision, Given, GivenItems, Reply, Request, Stamp, decide, look,
+    settle, stage, unstage,
 };
 use std::alloc::Global;
 
@@ -52,14 +56,15 @@ fn note(
 fn publish(
     table: &ClaimTable,
     publisher: &mut Publisher,
-    kept: &mut Kept,
-    made: Made,
+    kept: &mut BookState,
+    made: Acceptance,
     seen: State,
 ) -> Result<(), Under>
     requires of { IsPublisherOf table.now publisher.old }
     requires seen { HasSeen publisher.old.view seen }
     requires made { IsMade publisher.old.view.plan.setup seen.claims publisher.old.view.entries
         (parts kept.old) made }
+    requires room { length publisher.old.view.entries + length made.entries ≤ PLACES }
     ensures of { IsPublisherOf table.now publisher.new }
     ensures face { publisher.new ≡ record publisher.old { view = publisher.new.view } }
     ensures published { OnOk result (IsPublished publisher.old.view publisher.new.view
@@ -69,10 +74,11 @@ fn publish(
     ensures err { OnErr result (parts kept.new ≡ parts kept.old) }
     ensures missed { IfErr result (IsMissedBy publisher.old.view publisher.new.view seen.raw) }
 {
-    let Made {
+    let Acceptance {
         call,
         entries,
         item,
+        places: _,
         settling,
     } = made;
     let calls = kept.journal.len();
@@ -99,16 +105,24 @@ pub(crate) fn attempt(
     setup: &Setup,
     table: &ClaimTable,
     publisher: &mut Publisher,
-    kept: &mut Kept,
+    kept: &mut BookState,
     given: &mut GivenItems,
+    begun: usize,
+    places: &mut Places,
     client: u8,
     request: &Request,
 ) -> Result<(Reply, Stamp), Under>
     requires of { IsPublisherOf table.now publisher.old }
-    requires book { IsBook setup.now publisher.old.view (parts kept.old) given.old }
+    requires book { IsBook setup.now publisher.old.view (parts kept.old) given.old begun
+        places.old }
+    requires aside { is_aside places.old client ≡ true }
     ensures of { IsPublisherOf table.now publisher.new }
     ensures face { publisher.new ≡ record publisher.old { view = publisher.new.view } }
-    ensures book { IsBook setup.now publisher.new.view (parts kept.new) given.new }
+    ensures book { IsBook setup.now publisher.new.view (parts kept.new) given.new begun
+        places.new }
+    ensures spent { IfOk result (λ r. places.new ≡ spent places.old client (answer_places setup.now
+        kept.old.journal client r.1.claims request.now r.0)) }
+    ensures kept_places { OnErr result (places.new ≡ places.old) }
     ensures tried { IfOk result (λ r. IsTry setup.now publisher.old.view publisher.new.view
         kept.old.journal kept.new.journal given.old given.new client request.now r.0 r.1) }
     ensures still { OnErr result (IsStill publisher.old.view publisher.new.view kept.old.journal
@@ -126,19 +140,28 @@ pub(crate) fn attempt(
         Ok(decided) => decided,
         Err(_) => return Err(Under::NoMemory),
     };
-    let Decided { reply, made } = decided;
+    let Decision { reply, made } = decided;
     match note(given, client, request, &reply, stamp) {
         Ok(()) => {}
         Err(_) => return Err(Under::NoMemory),
     }
     match made {
-        None => Ok((reply, stamp)),
-        Some(made) => match publish(table, publisher, kept, made, seen) {
-            Ok(()) => Ok((reply, stamp)),
-            Err(under) => {
-                given.truncate(count);
-                Err(under)
+        None => {
+            places.spend(client, 0);
+            Ok((reply, stamp))
+        }
+        Some(made) => {
+            let taken = made.places;
+            match publish(table, publisher, kept, made, seen) {
+                Ok(()) => {
+                    places.spend(client, taken);
+                    Ok((reply, stamp))
+                }
+                Err(under) => {
+                    given.truncate(count);
+                    Err(under)
+                }
             }
-        },
+        }
     }
 }

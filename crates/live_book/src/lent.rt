@@ -4,7 +4,8 @@ ghost use Rattle.std.specs.Prelude.{◌≡◌, ◌++◌, ◌∷◌, [], ℕ, tru
 ghost use Rattle.claim_word.specs.Faces.{IsClientOf, IsPublisherOf};
 ghost use Rattle.plain_book.specs.Desk.{IsAsked};
 ghost use Rattle.plain_book.specs.Given.{given_item};
-ghost use Rattle.live_book.specs.Lent.{HeardMore, IsFewLoads, IsLentSo};
+ghost use Rattle.live_book.specs.Places.{answer_places, is_aside, spent};
+ghost use Rattle.live_book.specs.Lent.{HeardMore, IsFewLoads, IsLentSo, IsNoted, IsUnanswered};
 ghost use Rattle.live_book.specs.Tries.{AreBelow, GoesOn, IsLoadedLast, IsSame, answer_entries};
 
 use crate::attempt::Under;
@@ -24,8 +25,12 @@ fn answer_lent(
 ) -> Result<(Reply, Stamp), NoMemory>
     requires of { IsPublisherOf table.now book.old.publisher }
     requires of_pass { IsClientOf table.now pass.old }
+    requires aside { is_aside book.old.places client ≡ true }
     ensures of { IsPublisherOf table.now book.new.publisher }
     ensures of_pass { IsClientOf table.now pass.new }
+    ensures spent { IfOk result (λ r. book.new.places ≡ spent book.old.places client (answer_places
+        book.old.setup book.old.journal client r.1.claims request.now r.0)) }
+    ensures kept_places { OnErr result (book.new.places ≡ book.old.places) }
     ensures asked { IfOk result (λ r. IsAsked book.old.setup book.old.journal book.new.journal
         client request.now r.0 r.1) }
     ensures given { IfOk result (λ r. book.new.given
@@ -61,14 +66,12 @@ pub struct LentDesk<'a> {
     table: &'a ClaimTable,
     book: &'a mut Book,
     client: u8,
-    /// Whether it has not answered yet.
-    fresh: bool,
     ghost of: { IsPublisherOf table.now book.now.publisher },
     ghost of_pass: { IsClientOf table.now pass.now },
 }
 
 impl<'a> LentDesk<'a> {
-    /// The desk of a client, which has not answered yet.
+    /// The desk of a client for which places are set aside.
     pub fn new(
         pass: &'a mut ClientPass,
         table: &'a ClaimTable,
@@ -77,54 +80,54 @@ impl<'a> LentDesk<'a> {
     ) -> LentDesk<'a>
         requires of { IsPublisherOf table.now book.old.publisher }
         requires of_pass { IsClientOf table.now pass.old }
+        requires aside { is_aside book.old.places client ≡ true }
         ensures book { (result.book.ghost_name ≡ book.entry.ghost_name) × (result.book.now ≡
             book.old) }
         ensures pass { (result.pass.ghost_name ≡ pass.entry.ghost_name) × (result.pass.now ≡
             pass.old) }
         ensures table { result.table.now ≡ table.now }
-        ensures ready { (result.client ≡ client) × (result.fresh ≡ true) }
+        ensures ready { result.client ≡ client }
     {
         LentDesk {
             pass,
             table,
             book,
             client,
-            fresh: true,
         }
     }
 }
 
 impl<'a> Desk for LentDesk<'a> {
     ghost use Rattle.std.specs.Prelude.{◌≡◌, true};
-    ghost use Rattle.live_book.specs.Lent.{IsLentSo};
+    ghost use Rattle.live_book.specs.Lent.{IsLentSo, IsNoted, IsUnanswered};
+    ghost use Rattle.live_book.specs.Places.{is_aside};
 
     ghost setup = { λ d. d.book.now.setup };
 
     ghost journal = { λ d. d.book.now.journal };
 
-    ghost ready = { λ d client. (d.fresh ≡ true) × (d.client ≡ client) };
+    ghost ready = { λ d client. (is_aside d.book.now.places client ≡ true)
+        × (d.client ≡ client) };
 
     ghost lent = { λ d. (d.book.ghost_name, d.pass.ghost_name) };
 
     ghost keeps = { λ d e. IsLentSo d.table.now d.book.now e.book.now d.pass.now e.pass.now };
 
-    ghost answers_at = { λ d claims. Unit {0} };
+    ghost tells = { λ d e client request reply stamp. IsNoted d.book.now e.book.now d.pass.now
+        client request reply stamp };
+
+    ghost stays = { λ d e. IsUnanswered d.book.now e.book.now };
 
     fn ask(&mut self, client: u8, request: &Request) -> Result<(Reply, Stamp), NoMemory>
+        requires { (is_aside self.old.book.now.places client ≡ true) × (self.old.client ≡ client) }
         ensures asked { IfOk result (λ r. IsAsked self.old.book.now.setup self.old.book.now.journal
             self.new.book.now.journal client request.now r.0 r.1) }
-        ensures claims { IfOk result (λ r. Unit {0}) }
-        ensures given { IfOk result (λ r. self.new.book.now.given
-            ≡ self.old.book.now.given ++ given_item client request.now r.0 r.1 ∷ []) }
-        ensures entries { IfOk result (λ r. self.new.book.now.publisher.view.entries
-            ≡ self.old.book.now.publisher.view.entries ++ answer_entries self.old.book.now.setup
-            self.old.book.now.journal client r.1.claims request.now r.0) }
-        ensures load { IfOk result (λ r. IsLoadedLast self.old.book.now.publisher.view
-            self.new.book.now.publisher.view r.1.claims) }
-        ensures floor { IfOk result (λ r. AreBelow self.old.book.now.publisher.view.plan r.1.claims
-            (self.old.pass.now.view.sights ++ self.old.pass.now.view.told)) }
+        ensures tells { IfOk result (λ r. IsNoted self.old.book.now self.new.book.now
+            self.old.pass.now client request.now r.0 r.1) }
         ensures err { OnErr result (self.new.book.now.journal ≡ self.old.book.now.journal) }
-        ensures same { OnErr result (IsSame self.old.book.now self.new.book.now) }
+        ensures stays { OnErr result (IsUnanswered self.old.book.now self.new.book.now) }
+        ensures again { OnErr result ((is_aside self.new.book.now.places client ≡ true)
+            × (self.new.client ≡ client)) }
         ensures few { IsFewLoads self.old.book.now.publisher.view.plan
             self.old.book.now.publisher.view self.new.book.now.publisher.view }
         ensures setup { self.new.book.now.setup ≡ self.old.book.now.setup }
@@ -133,8 +136,6 @@ impl<'a> Desk for LentDesk<'a> {
         ensures keeps { IsLentSo self.old.table.now self.old.book.now self.new.book.now
             self.old.pass.now self.new.pass.now }
     {
-        let answer = answer_lent(self.book, self.pass, self.table, client, request)?;
-        self.fresh = false;
-        Ok(answer)
+        answer_lent(self.book, self.pass, self.table, client, request)
     }
 }

@@ -1,12 +1,15 @@
 //! What clients share: the book, and what each still asks.
 
-ghost use Rattle.std.specs.Prelude.{◌≡◌, ◌<◌, ◌++◌, ◌∷◌, [], ℕ, IfOk, IfSome, OnErr, false, length};
+ghost use Rattle.std.specs.Prelude.{◌≡◌, ◌<◌, ◌++◌, ◌∷◌, ◌&&◌, [], ℕ, IfOk, IfSome, OnErr, false};
+ghost use Rattle.std.specs.Prelude.{length};
 ghost use Rattle.std.specs.Prelude.{slice_get, true};
 ghost use Rattle.std.specs.Option.{option_copied};
 ghost use Rattle.claim_word.specs.Faces.{IsClientOf, IsPublisherOf};
 ghost use Rattle.plain_book.specs.Desk.{IsAsked};
 ghost use Rattle.plain_book.specs.Given.{given_item};
 ghost use Rattle.live_book.specs.Named.{IsNextAnswered, IsShared, has_left, left_of, without_first};
+ghost use Rattle.io_caps.specs.declared.limits.TheConstants.{CLIENTS};
+ghost use Rattle.live_book.specs.Places.{is_aside, may_reserve};
 ghost use Rattle.live_book.specs.Tries.{GoesOn, IsSame};
 ghost use Rattle.live_book.specs.Lent.{HeardMore};
 
@@ -93,6 +96,7 @@ fn ask_lent(
 ) -> Result<(Reply, Stamp), NoMemory>
     requires of { IsPublisherOf table.now book.old.publisher }
     requires of_pass { IsClientOf table.now pass.old }
+    requires aside { is_aside book.old.places client ≡ true }
     ensures of { IsPublisherOf table.now book.new.publisher }
     ensures of_pass { IsClientOf table.now pass.new }
     ensures asked { IfOk result (λ r. IsAsked book.old.setup book.old.journal book.new.journal
@@ -107,7 +111,8 @@ fn ask_lent(
     desk.ask(client, request)
 }
 
-/// Answers the first request that a client asks, and takes it off. False where it asks nothing.
+/// Answers the first request that a client asks, and takes it off. False where it asks nothing, or
+/// no places can be set aside for it.
 fn answer_first(
     book: &mut Book,
     left: &mut Vec<AskList>,
@@ -117,9 +122,11 @@ fn answer_first(
 ) -> Result<bool, NoMemory>
     requires of { IsPublisherOf table.now book.old.publisher }
     requires of_pass { IsClientOf table.now pass.old }
+    requires client { client < CLIENTS }
     ensures of { IsPublisherOf table.now book.new.publisher }
     ensures of_pass { IsClientOf table.now pass.new }
-    ensures more { IfOk result (λ more. more ≡ has_left left.old.items client) }
+    ensures more { IfOk result (λ more. more ≡ (has_left left.old.items client
+        && may_reserve book.old.places client)) }
     ensures answered { IfOk result (λ more. more ≡ true → IsNextAnswered client book.old book.new
         left.old.items left.new.items) }
     ensures none { IfOk result (λ more. more ≡ false → book.new ≡ book.old) }
@@ -132,6 +139,9 @@ fn answer_first(
     match first_of(left.as_slice(), client) {
         None => Ok(false),
         Some(request) => {
+            if !book.reserve(client) {
+                return Ok(false);
+            }
             ask_lent(book, pass, table, client, request)?;
             take_first_of(left, client);
             Ok(true)
@@ -166,8 +176,9 @@ impl<N: Named> Shared<N> {
     }
 
     /// Answers the first request that a client still asks, through a desk that is lent the book,
-    /// and takes it off. False comes exactly where the client asks nothing more; then nothing
-    /// changes. If memory runs out, entries, calls, answers and what is asked stay as they were.
+    /// and takes it off. False comes exactly where the client asks nothing more, or no places can
+    /// be set aside for it; then nothing changes. If memory runs out, entries, calls, answers and
+    /// what is asked stay as they were.
     pub fn answer_next(
         &mut self,
         pass: &mut ClientPass,
@@ -176,8 +187,10 @@ impl<N: Named> Shared<N> {
     ) -> Result<bool, NoMemory>
         requires table { table.now ≡ N.table }
         requires of_pass { IsClientOf table.now pass.old }
+        requires client { client < CLIENTS }
         ensures of_pass { IsClientOf table.now pass.new }
-        ensures more { IfOk result (λ more. more ≡ has_left self.old.left client) }
+        ensures more { IfOk result (λ more. more ≡ (has_left self.old.left client
+            && may_reserve self.old.book.places client)) }
         ensures answered { IfOk result (λ more. more ≡ true → IsNextAnswered client self.old.book
             self.new.book self.old.left self.new.left) }
         ensures none { IfOk result (λ more. more ≡ false → self.new ≡ self.old) }
