@@ -20,7 +20,7 @@ use Rattle.api_routes.specs.declared.routes.Route.TheVariants.{Activations, Acti
 use Rattle.api_routes.specs.declared.targets.Target.{Target}
 use Rattle.api_routes.specs.declared.targets.Target.TheVariants.{Fixed, AllPending, OnePending}
 use Rattle.api_routes.specs.declared.targets.Target.TheVariants.{Rows}
-use Rattle.api_routes.specs.declared.wrong.Wrong.TheVariants.{NoResource, NoMethod, Body}
+use Rattle.api_routes.specs.declared.wrong.ApiFault.TheVariants.{NoResource, NoMethod, Body}
 use Rattle.api_routes.specs.declared.plan.Part.TheVariants.{Whole, Item, Row}
 use Rattle.api_routes.specs.declared.plan.Plan.{Plan}
 use Rattle.api_routes.specs.declared.plan.Plan.TheVariants.{Preflight, Refuse, Show, Ask}

@@ -10,17 +10,17 @@ use Rattle.map_entry.specs.declared.fault.RowFault.TheVariants.{Block, Order}
 use Rattle.book_words.specs.declared.replies.Refusal.{Refusal}
 use Rattle.book_words.specs.declared.replies.Refusal.TheVariants.{Empty, Unknown, BadChannel}
 use Rattle.book_words.specs.declared.replies.Refusal.TheVariants.{Locked, Row, Time as NoTime}
-use Rattle.book_words.specs.declared.replies.Refusal.TheVariants.{NotPending, Full}
+use Rattle.book_words.specs.declared.replies.Refusal.TheVariants.{NotPending}
 use Rattle.channel_json.specs.declared.faults.Place.{Place}
 use Rattle.channel_json.specs.declared.faults.Place.TheVariants.{Top, Activation, Mode, Time}
 use Rattle.channel_json.specs.declared.faults.Place.TheVariants.{Action, Output, Cell}
 use Rattle.channel_json.specs.declared.faults.BodyFault.{BodyFault}
 use Rattle.channel_json.specs.declared.faults.BodyFault.TheVariants.{NotJson, Shape, UnknownOutput}
 use Rattle.channel_json.specs.declared.faults.BodyFault.TheVariants.{UnknownInput}
-use Rattle.api_routes.specs.declared.wrong.Wrong.{Wrong}
-use Rattle.api_routes.specs.declared.wrong.Wrong.TheVariants.{NoResource, NoMethod, Body}
-use Rattle.api_routes.specs.declared.wrong.Wrong.TheVariants.{NoActivation, Refused, Stream}
-use Rattle.api_routes.specs.declared.wrong.Wrong.TheVariants.{NoMemory}
+use Rattle.api_routes.specs.declared.wrong.ApiFault.{ApiFault}
+use Rattle.api_routes.specs.declared.wrong.ApiFault.TheVariants.{NoResource, NoMethod, Body}
+use Rattle.api_routes.specs.declared.wrong.ApiFault.TheVariants.{NoActivation, Refused, Stream}
+use Rattle.api_routes.specs.declared.wrong.ApiFault.TheVariants.{NoMemory}
 
 -- ---- statuses
 
@@ -28,11 +28,10 @@ use Rattle.api_routes.specs.declared.wrong.Wrong.TheVariants.{NoMemory}
 abbrev pub refusal_status : Refusal → ℕ
 refusal_status (Locked output) = 423
 refusal_status (NotPending id) = 404
-refusal_status Full = 507
 refusal_status refusal = 400
 
 -- the status of what is wrong
-abbrev pub status_of : Wrong → ℕ
+abbrev pub status_of : ApiFault → ℕ
 status_of NoResource = 404
 status_of (NoMethod methods) = 405
 status_of (Body fault) = 400
@@ -77,7 +76,6 @@ refusal_text (Locked output) = codes "output locked"
 refusal_text (Row output fault) = row_text fault
 refusal_text NoTime = codes "time out of range"
 refusal_text (NotPending id) = codes "no such activation"
-refusal_text Full = codes "table full"
 
 -- a stream of requests that is refused
 abbrev pub stream_text : ℕ → List ℕ
@@ -88,7 +86,7 @@ stream_text status =
     else codes "bad request"
 
 -- what is said to be wrong
-abbrev pub text_of : Wrong → List ℕ
+abbrev pub text_of : ApiFault → List ℕ
 text_of NoResource = codes "unknown resource"
 text_of (NoMethod methods) = codes "method not allowed"
 text_of (Body fault) = body_text fault
@@ -98,6 +96,6 @@ text_of (Stream status) = stream_text status
 text_of NoMemory = codes "no memory"
 
 -- what is said besides: the methods that there are
-abbrev pub extra_of : Wrong → Extra
+abbrev pub extra_of : ApiFault → Extra
 extra_of (NoMethod methods) = methods
 extra_of wrong = Nothing

@@ -11,7 +11,7 @@ ghost use Rattle.http_wire.specs.declared.response.Extra.TheVariants.{Nothing, P
 ghost use Rattle.book_words.specs.Calls.{action_of, when_of};
 
 use crate::plan::Part;
-use crate::wrong::Wrong;
+use crate::wrong::ApiFault;
 use channel_json::{
     Resource, activation_body, active_body, error_body, item_body, pending_body, resource_body,
 };
@@ -23,17 +23,17 @@ use std::alloc::Global;
 
 /// A status, what is said besides, and a body.
 #[derive(Debug, Drop)]
-pub(crate) struct Said {
+pub(crate) struct Answer {
     pub(crate) status: u16,
     pub(crate) extra: Extra,
     pub(crate) body: Bytes,
 }
 
 /// What is said with a body and nothing besides.
-fn plain(status: u16, body: Vec<u8>) -> Said
+fn plain(status: u16, body: Vec<u8>) -> Answer
     ensures { result ≡ said status Nothing body.items }
 {
-    Said {
+    Answer {
         status,
         extra: Extra::Nothing,
         body: Bytes::from_vec(body),
@@ -41,13 +41,13 @@ fn plain(status: u16, body: Vec<u8>) -> Said
 }
 
 /// What is said of something wrong.
-pub(crate) fn said_wrong(alloc: Global, wrong: Wrong) -> Result<Said, NoMemory>
+pub(crate) fn said_wrong(alloc: Global, wrong: ApiFault) -> Result<Answer, NoMemory>
     ensures { IfOk result (λ made. made ≡ said_wrong wrong) }
 {
     let status = wrong.status();
     let mut body = Vec::new(alloc);
     error_body(alloc, status, wrong.text(), &mut body)?;
-    Ok(Said {
+    Ok(Answer {
         status,
         extra: wrong.extra(),
         body: Bytes::from_vec(body),
@@ -55,10 +55,10 @@ pub(crate) fn said_wrong(alloc: Global, wrong: Wrong) -> Result<Said, NoMemory>
 }
 
 /// What is said of what may be asked for.
-pub(crate) fn said_preflight(alloc: Global) -> Said
+pub(crate) fn said_preflight(alloc: Global) -> Answer
     ensures { result ≡ said 200 Preflight [] }
 {
-    Said {
+    Answer {
         status: status::OK,
         extra: Extra::Preflight,
         body: Bytes::new(alloc),
@@ -70,7 +70,7 @@ pub(crate) fn said_resource(
     alloc: Global,
     device: &Device,
     resource: Resource,
-) -> Result<Said, NoMemory>
+) -> Result<Answer, NoMemory>
     requires { IsThere device.now resource }
     ensures { IfOk result (λ made. made ≡ said 200 Nothing (resource_text device.now resource)) }
 {
@@ -86,20 +86,30 @@ fn said_accepted(
     status: u16,
     id: u64,
     tick: u64,
+    offset: u16,
     request: &Request,
-) -> Result<Said, NoMemory>
+) -> Result<Answer, NoMemory>
     ensures { IfOk result (λ made. made ≡ said status Nothing
-        (accepted_text device.now id (when_of request.now) tick (action_of request.now))) }
+        (accepted_text device.now id (when_of request.now) tick offset (action_of request.now))) }
 {
     let mut body = Vec::new(alloc);
     match request {
         Request::Activate { when, action } => {
-            activation_body(alloc, device, id, when, tick, action, &mut body)?;
+            activation_body(alloc, device, id, when, tick, offset, action, &mut body)?;
         }
         // No book accepts another request so: it names no time and no output.
         Request::Delete { .. } | Request::Active | Request::Pending => {
             let action = Action::new(alloc);
-            activation_body(alloc, device, id, &When::Now, tick, &action, &mut body)?;
+            activation_body(
+                alloc,
+                device,
+                id,
+                &When::Now,
+                tick,
+                offset,
+                &action,
+                &mut body,
+            )?;
         }
     }
     Ok(plain(status, body))
@@ -113,7 +123,7 @@ fn find_item(items: &[PendingItem], id: u64) -> Option<&PendingItem>
 }
 
 /// What is said of a pending activation, or of that there is none.
-fn said_item(alloc: Global, device: &Device, item: Option<&PendingItem>) -> Result<Said, NoMemory>
+fn said_item(alloc: Global, device: &Device, item: Option<&PendingItem>) -> Result<Answer, NoMemory>
     ensures { IfOk result (λ made. made ≡ said_item device.now (option_copied item.entry)) }
 {
     match item {
@@ -122,7 +132,7 @@ fn said_item(alloc: Global, device: &Device, item: Option<&PendingItem>) -> Resu
             item_body(alloc, device, item, &mut body)?;
             Ok(plain(status::OK, body))
         }
-        None => said_wrong(alloc, Wrong::NoActivation),
+        None => said_wrong(alloc, ApiFault::NoActivation),
     }
 }
 
@@ -132,7 +142,7 @@ fn said_pending(
     device: &Device,
     items: &PendingItems,
     part: Part,
-) -> Result<Said, NoMemory>
+) -> Result<Answer, NoMemory>
     ensures { IfOk result (λ made. made ≡ said_pending device.now part items.now) }
 {
     match part {
@@ -159,7 +169,7 @@ fn said_active(
     device: &Device,
     view: &ActiveView,
     part: Part,
-) -> Result<Said, NoMemory>
+) -> Result<Answer, NoMemory>
     ensures { IfOk result (λ made. made ≡ said 200 Nothing
         (active_text device.now view.now (only_of part))) }
 {
@@ -175,25 +185,33 @@ pub(crate) fn said_reply(
     request: &Request,
     part: Part,
     reply: &Reply,
-) -> Result<Said, NoMemory>
+) -> Result<Answer, NoMemory>
     ensures { IfOk result (λ made. made ≡ said_reply device.now request.now part reply.now) }
 {
     match reply {
-        Reply::Activated { id, tick } => {
-            said_accepted(alloc, device, status::OK, *id, *tick, request)
+        Reply::Activated { id, tick, offset } => {
+            said_accepted(alloc, device, status::OK, *id, *tick, *offset, request)
         }
-        Reply::Scheduled { id, tick } => {
-            said_accepted(alloc, device, status::ACCEPTED, *id, *tick, request)
+        Reply::Scheduled { id, tick, offset } => {
+            said_accepted(
+                alloc,
+                device,
+                status::ACCEPTED,
+                *id,
+                *tick,
+                *offset,
+                request,
+            )
         }
         Reply::Deleted { .. } => Ok(plain(status::NO_CONTENT, Vec::new(alloc))),
         Reply::Active(view) => said_active(alloc, device, view, part),
         Reply::Pending(items) => said_pending(alloc, device, items, part),
-        Reply::Refused(refusal) => said_wrong(alloc, Wrong::Refused(*refusal)),
+        Reply::Refused(refusal) => said_wrong(alloc, ApiFault::Refused(*refusal)),
     }
 }
 
 /// Appends the response with what is said. If memory runs out, `out` stays as it was.
-pub(crate) fn write_said(said: &Said, closes: bool, out: &mut Vec<u8>) -> Result<(), NoMemory>
+pub(crate) fn write_said(said: &Answer, closes: bool, out: &mut Vec<u8>) -> Result<(), NoMemory>
     requires { IsStatus said.now.status }
     ensures ok { OnOk result (out.new.items ≡ out.old.items ++ text_said closes said.now) }
     ensures err { OnErr result (out.new.items ≡ out.old.items) }

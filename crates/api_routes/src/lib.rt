@@ -10,7 +10,9 @@ mod targets;
 mod wrong;
 
 pub use routes::Routes;
-pub use serve::{Answered, ServeFault, asks, no_memory_response, refuse_stream, serve_request};
+pub use serve::{
+    Answered, ServeFault, asks, no_memory_response, refuse_stream, respond, serve_request,
+};
 
 #[cfg(test)]
 mod tests;

@@ -8,7 +8,7 @@ ghost use Rattle.channel_json.specs.Requests.{request_by};
 
 use crate::routes::{Route, Routes};
 use crate::targets::{Target, cut_path, route_of, target_of};
-use crate::wrong::Wrong;
+use crate::wrong::ApiFault;
 use channel_json::{Resource, request_of};
 use http_wire::{Extra, HttpRequest, Method};
 use io_caps::{Device, NoMemory, Or};
@@ -30,7 +30,7 @@ pub(crate) enum Part {
 pub(crate) enum Plan {
     /// It is told what may be asked for.
     Preflight,
-    Refuse(Wrong),
+    Refuse(ApiFault),
     Show(Resource),
     /// The book is asked.
     Ask(Request, Part),
@@ -73,7 +73,7 @@ fn post(alloc: Global, device: &Device, body: &[u8]) -> Result<Plan, NoMemory>
 {
     match request_of(alloc, device, body) {
         Ok(request) => Ok(Plan::Ask(request, Part::Whole)),
-        Err(Or::Fault(fault)) => Ok(Plan::Refuse(Wrong::Body(fault))),
+        Err(Or::Fault(fault)) => Ok(Plan::Refuse(ApiFault::Body(fault))),
         Err(Or::NoMemory) => Err(NoMemory),
     }
 }
@@ -118,15 +118,15 @@ fn plan_path(
     ensures there { IfOk result (IsPlanOk device.now) }
 {
     let Some(route) = route_of(routes, path) else {
-        return Ok(Plan::Refuse(Wrong::NoResource));
+        return Ok(Plan::Refuse(ApiFault::NoResource));
     };
     let methods = methods_of(route);
     if !has_method(methods, method) {
-        return Ok(Plan::Refuse(Wrong::NoMethod(methods)));
+        return Ok(Plan::Refuse(ApiFault::NoMethod(methods)));
     }
     match target_of(device, route, path) {
         Some(target) => plan_at(alloc, device, target, method, body),
-        None => Ok(Plan::Refuse(Wrong::NoResource)),
+        None => Ok(Plan::Refuse(ApiFault::NoResource)),
     }
 }
 

@@ -1,19 +1,20 @@
 //! Requests that are served over a book.
 
 ghost use Rattle.std.specs.Prelude.{◌≡◌, ◌++◌, ◌⊎◌, IfOk, IfErr, OnOk, OnErr, None};
+ghost use Rattle.std.specs.Option.{IfNone, option_copied};
 ghost use Rattle.http_wire.specs.Response.{IsStatus};
-ghost use Rattle.api_routes.specs.Answer.{IsServed, IsUnserved, IsUnwritten, IsWritten, OnAt};
-ghost use Rattle.api_routes.specs.Answer.{OnStill, no_memory_text, said_by, said_reply};
+ghost use Rattle.api_routes.specs.Answer.{IsServed, IsUnserved, IsUnwritten, IsWritten, OnStill};
+ghost use Rattle.api_routes.specs.Answer.{no_memory_text, response_of, said_by, said_reply};
 ghost use Rattle.api_routes.specs.Answer.{stream_response, text_said};
 ghost use Rattle.api_routes.specs.Plan.{IsPlanOk, request_asked};
 
-use crate::answer::{Said, said_preflight, said_reply, said_resource, said_wrong, write_said};
+use crate::answer::{Answer, said_preflight, said_reply, said_resource, said_wrong, write_said};
 use crate::plan::{Part, Plan, plan_of};
 use crate::routes::Routes;
-use crate::wrong::Wrong;
+use crate::wrong::ApiFault;
 use http_wire::HttpRequest;
 use io_caps::{Device, NoMemory, TryCopy};
-use plain_book::{Desk, Request, Stamp};
+use plain_book::{Desk, Reply, Request, Stamp};
 use std::alloc::Global;
 use thiserror::Error;
 
@@ -71,6 +72,24 @@ pub fn asks(
     }
 }
 
+/// Appends the response to a book's reply.
+fn answer_reply(
+    alloc: Global,
+    device: &Device,
+    request: &Request,
+    part: Part,
+    reply: &Reply,
+    closes: bool,
+    out: &mut Vec<u8>,
+) -> Result<(), NoMemory>
+    ensures ok { OnOk result (out.new.items ≡ out.old.items
+        ++ text_said closes (said_reply device.now request.now part reply.now)) }
+    ensures err { OnErr result (out.new.items ≡ out.old.items) }
+{
+    let said = said_reply(alloc, device, request, part, reply)?;
+    write_said(&said, closes, out)
+}
+
 /// Asks the book and appends the response to its reply.
 fn ask<D: Desk>(
     alloc: Global,
@@ -84,12 +103,13 @@ fn ask<D: Desk>(
 ) -> Result<Stamp, ServeFault>
     requires { D.ready desk.old client }
     ensures ok { IfOk result (λ stamp. IsWritten (D.setup desk.old) client (D.journal desk.old)
-        (D.journal desk.new) request.now stamp
+        (D.journal desk.new) (D.tells desk.old desk.new client) request.now stamp
         (λ reply. text_said closes (said_reply device.now request.now part reply))
         out.old.items out.new.items) }
     ensures fault { IfErr result (λ e. IsUnwritten (D.setup desk.old) client (D.journal desk.old)
-        (D.journal desk.new) request.now e.asked) }
-    ensures claims { IfOk result (λ stamp. D.answers_at desk.old stamp.claims) }
+        (D.journal desk.new) (D.tells desk.old desk.new client) request.now e.asked) }
+    ensures stays { IfErr result (λ e. IfNone e.asked (D.stays desk.old desk.new)) }
+    ensures again { IfErr result (λ e. IfNone e.asked (D.ready desk.new client)) }
     ensures out { OnErr result (out.new.items ≡ out.old.items) }
     ensures setup { D.setup desk.new ≡ D.setup desk.old }
     ensures lent { D.lent desk.new ≡ D.lent desk.old }
@@ -97,17 +117,14 @@ fn ask<D: Desk>(
 {
     let (reply, stamp) = desk.ask(client, request)?;
     let asked = ServeFault { asked: Some(stamp) };
-    let Ok(said) = said_reply(alloc, device, request, part, &reply) else {
-        return Err(asked);
-    };
-    match write_said(&said, closes, out) {
+    match answer_reply(alloc, device, request, part, &reply, closes, out) {
         Ok(()) => Ok(stamp),
         Err(_) => Err(asked),
     }
 }
 
 /// What is said without the book.
-fn said_unasked(alloc: Global, device: &Device, plan: &Plan) -> Result<Said, NoMemory>
+fn said_unasked(alloc: Global, device: &Device, plan: &Plan) -> Result<Answer, NoMemory>
     requires { IsPlanOk device.now plan.now }
     ensures value { IfOk result (λ made. made ≡ said_by device.now plan.now None) }
     ensures status { IfOk result (λ made. IsStatus made.status) }
@@ -117,7 +134,7 @@ fn said_unasked(alloc: Global, device: &Device, plan: &Plan) -> Result<Said, NoM
         Plan::Refuse(wrong) => said_wrong(alloc, *wrong),
         Plan::Show(resource) => said_resource(alloc, device, *resource),
         // A plan that asks the book is answered by its reply.
-        Plan::Ask(_, _) => said_wrong(alloc, Wrong::NoMemory),
+        Plan::Ask(_, _) => said_wrong(alloc, ApiFault::NoMemory),
     }
 }
 
@@ -138,6 +155,33 @@ fn answer(
     write_said(&said, closes, out)
 }
 
+/// Appends the response to a request, given the reply of a book that was asked with the request
+/// that [`asks`] tells, and none where that tells none. Where a reply is missing, it is the
+/// response that memory ran out. If memory runs out here, `out` is as it was.
+pub fn respond(
+    alloc: Global,
+    routes: &Routes,
+    device: &Device,
+    request: &HttpRequest,
+    reply: Option<&Reply>,
+    out: &mut Vec<u8>,
+) -> Result<(), NoMemory>
+    ensures ok { OnOk result (out.new.items ≡ out.old.items
+        ++ response_of device.now request.now (option_copied reply.entry)) }
+    ensures err { OnErr result (out.new.items ≡ out.old.items) }
+{
+    let plan = plan_of(alloc, routes, device, request)?;
+    match &plan {
+        Plan::Ask(asked, part) => match reply {
+            Some(reply) => answer_reply(alloc, device, asked, *part, reply, request.closes, out),
+            None => answer(alloc, device, &plan, request.closes, out),
+        },
+        Plan::Preflight | Plan::Refuse(_) | Plan::Show(_) => {
+            answer(alloc, device, &plan, request.closes, out)
+        }
+    }
+}
+
 /// Serves a request, and appends the whole response to it. The book is asked at most once, for the
 /// client, with the request that [`asks`] tells. If memory runs out, `out` is as it was.
 pub fn serve_request<D: Desk>(
@@ -151,12 +195,14 @@ pub fn serve_request<D: Desk>(
 ) -> Result<Answered, ServeFault>
     requires ready { D.ready desk.old client }
     ensures served { IfOk result (IsServed device.now request.now (D.setup desk.old) client
-        (D.journal desk.old) (D.journal desk.new) out.old.items out.new.items) }
+        (D.journal desk.old) (D.journal desk.new) (D.tells desk.old desk.new client) out.old.items
+        out.new.items) }
     ensures still { IfOk result (λ answered. OnStill answered (desk.new ≡ desk.old)) }
-    ensures claims { IfOk result (λ answered. OnAt answered
-        (λ stamp. D.answers_at desk.old stamp.claims)) }
     ensures fault { IfErr result (λ e. IsUnserved device.now request.now (D.setup desk.old) client
-        (D.journal desk.old) (D.journal desk.new) e.asked) }
+        (D.journal desk.old) (D.journal desk.new) (D.tells desk.old desk.new client) e.asked) }
+    ensures stays { IfErr result (λ e. IfNone e.asked
+        ((desk.new ≡ desk.old) ⊎ D.stays desk.old desk.new)) }
+    ensures again { IfErr result (λ e. IfNone e.asked (D.ready desk.new client)) }
     ensures out { OnErr result (out.new.items ≡ out.old.items) }
     ensures setup { D.setup desk.new ≡ D.setup desk.old }
     ensures lent { D.lent desk.new ≡ D.lent desk.old }
@@ -192,7 +238,7 @@ pub fn refuse_stream(alloc: Global, status: u16, out: &mut Vec<u8>) -> Result<()
     ensures ok { OnOk result (out.new.items ≡ out.old.items ++ stream_response status) }
     ensures err { OnErr result (out.new.items ≡ out.old.items) }
 {
-    let said = said_wrong(alloc, Wrong::Stream(status))?;
+    let said = said_wrong(alloc, ApiFault::Stream(status))?;
     write_said(&said, true, out)
 }
 

@@ -1,11 +1,13 @@
 //! Requests over the one-thread book, with the responses byte for byte.
 
-use crate::{Answered, Routes, ServeFault, asks, no_memory_response, refuse_stream, serve_request};
+use crate::{
+    Answered, Routes, ServeFault, asks, no_memory_response, refuse_stream, respond, serve_request,
+};
 use channel_json::device_of;
 use http_wire::{HttpRequest, Method, Next, Stream};
 use io_caps::{Bytes, NoMemory, Text};
-use map_entry::Setup;
-use plain_book::{PlainDesk, Stamp};
+use map_entry::{Grain, Setup};
+use plain_book::{Desk, PlainDesk, Stamp};
 use std::alloc::Global;
 use std::process::Abort;
 use std::test::Fail;
@@ -719,6 +721,7 @@ const ASKS: [(Method, &str, bool); 14] = [
     (Method::Post, "map/activations", false),
 ];
 
+/// Whether the book is asked, and that the response is the same where another is asked apart.
 fn check_asks(
     rt: &impl Abort,
     alloc: Global,
@@ -733,8 +736,23 @@ fn check_asks(
     let request = request(alloc, method, whole.as_str(), "{}")?;
     let would = asks(alloc, &routes, &setup.device, &request)?;
     assert_eq!(rt; would.is_some(), asked, "{path}");
-    let (_, answered) = served(alloc, setup, &mut desk, &request)?;
+    let (out, answered) = served(alloc, setup, &mut desk, &request)?;
     assert_eq!(rt; answered != Answered::Still, asked, "{path}");
+    let mut other = PlainDesk::new(alloc, setup)?;
+    let reply = match &would {
+        Some(ask) => Some(other.ask(0, ask)?.0),
+        None => None,
+    };
+    let mut apart = Vec::new(alloc);
+    respond(
+        alloc,
+        &routes,
+        &setup.device,
+        &request,
+        reply.as_ref(),
+        &mut apart,
+    )?;
+    assert_eq!(rt; apart.as_slice(), out.as_slice(), "{path}");
     Ok(())
 }
 
@@ -747,42 +765,26 @@ fn when_the_book_is_asked(rt: HostRuntime) -> Result<(), Fail> {
     Ok(())
 }
 
-const BOTH: &str = "{\"activation\":{\"mode\":\"activate_immediate\"},\
-    \"action\":{\"x\":{},\"y\":{}}}";
-
-/// A given number of activations of both outputs, which are accepted.
-fn check_accepted(
-    rt: &impl Abort,
-    alloc: Global,
-    setup: &Setup,
-    desk: &mut PlainDesk,
-    count: usize,
-) -> Result<(), NoMemory> {
-    let path = "/x-nmos/channelmapping/v1.0/map/activations";
-    let post = request(alloc, Method::Post, path, BOTH)?;
-    for _ in 0..count {
-        let (out, _) = served(alloc, setup, desk, &post)?;
-        assert!(rt; out.as_slice().starts_with(b"HTTP/1.1 200 OK\r\n"));
-    }
-    Ok(())
-}
-
-const FULL: Step = (
+const FROM_FRAME: Step = (
     Method::Post,
     ACTIVATIONS,
-    BOTH,
-    "507 Insufficient Storage",
+    "{\"activation\":{\"mode\":\"activate_scheduled_absolute\",\
+    \"requested_time\":\"0:437500\"},\
+    \"action\":{\"x\":{\"0\":{\"input\":\"a\",\"channel_index\":0}}}}",
+    "202 Accepted",
     "",
-    "{\"code\":507,\"debug\":null,\"error\":\"table full\"}",
+    "{\"1\":{\"action\":{\"x\":{\"0\":{\"channel_index\":0,\"input\":\"a\"}}},\
+    \"activation\":{\"activation_time\":\"0:437500\",\
+    \"mode\":\"activate_scheduled_absolute\",\"requested_time\":\"0:437500\"}}}",
 );
 
-/// The table of a book of two outputs has places for 255 activations of both.
+/// Where activations count from single frames, the start of the frame is told.
 #[test]
-fn full_table(rt: HostRuntime) -> Result<(), Fail> {
-    let setup = setup(rt.alloc(), DEVICE_P)?;
+fn start_of_a_frame(rt: HostRuntime) -> Result<(), Fail> {
+    let mut setup = setup(rt.alloc(), DEVICE_P)?;
+    setup.grain = Grain::Frame;
     let mut desk = PlainDesk::new(rt.alloc(), &setup)?;
-    check_accepted(&rt, rt.alloc(), &setup, &mut desk, 255)?;
-    check_step(&rt, rt.alloc(), &setup, &mut desk, &FULL)?;
+    check_step(&rt, rt.alloc(), &setup, &mut desk, &FROM_FRAME)?;
     Ok(())
 }
 

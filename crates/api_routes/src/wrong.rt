@@ -11,7 +11,7 @@ use plain_book::Refusal;
 
 /// What is wrong with a request.
 #[derive(Clone, Copy, Debug, PartialEq)]
-pub(crate) enum Wrong {
+pub(crate) enum ApiFault {
     /// The path has no resource, or what it names is not there.
     NoResource,
     /// The resource has no such method; it has these.
@@ -34,7 +34,6 @@ fn refusal_status(refusal: Refusal) -> u16
     match refusal {
         Refusal::Locked { .. } => status::LOCKED,
         Refusal::NotPending { .. } => status::NOT_FOUND,
-        Refusal::Full => status::INSUFFICIENT_STORAGE,
         Refusal::Empty
         | Refusal::Unknown { .. }
         | Refusal::BadChannel { .. }
@@ -91,7 +90,6 @@ fn refusal_text(refusal: Refusal) -> &'static str
         Refusal::Row { fault, .. } => row_text(fault),
         Refusal::Time => "time out of range",
         Refusal::NotPending { .. } => "no such activation",
-        Refusal::Full => "table full",
     }
 }
 
@@ -106,17 +104,17 @@ fn stream_text(status: u16) -> &'static str
     }
 }
 
-impl Wrong {
+impl ApiFault {
     pub(crate) fn status(self) -> u16
         ensures { result ≡ status_of self }
     {
         match self {
-            Wrong::NoResource | Wrong::NoActivation => status::NOT_FOUND,
-            Wrong::NoMethod(_) => status::METHOD_NOT_ALLOWED,
-            Wrong::Body(_) => status::BAD_REQUEST,
-            Wrong::Refused(refusal) => refusal_status(refusal),
-            Wrong::Stream(status) => status,
-            Wrong::NoMemory => status::SERVICE_UNAVAILABLE,
+            ApiFault::NoResource | ApiFault::NoActivation => status::NOT_FOUND,
+            ApiFault::NoMethod(_) => status::METHOD_NOT_ALLOWED,
+            ApiFault::Body(_) => status::BAD_REQUEST,
+            ApiFault::Refused(refusal) => refusal_status(refusal),
+            ApiFault::Stream(status) => status,
+            ApiFault::NoMemory => status::SERVICE_UNAVAILABLE,
         }
     }
 
@@ -124,13 +122,13 @@ impl Wrong {
         ensures { result.now ≡ text_of self }
     {
         match self {
-            Wrong::NoResource => "unknown resource",
-            Wrong::NoMethod(_) => "method not allowed",
-            Wrong::Body(fault) => body_text(fault),
-            Wrong::NoActivation => "no such activation",
-            Wrong::Refused(refusal) => refusal_text(refusal),
-            Wrong::Stream(status) => stream_text(status),
-            Wrong::NoMemory => "no memory",
+            ApiFault::NoResource => "unknown resource",
+            ApiFault::NoMethod(_) => "method not allowed",
+            ApiFault::Body(fault) => body_text(fault),
+            ApiFault::NoActivation => "no such activation",
+            ApiFault::Refused(refusal) => refusal_text(refusal),
+            ApiFault::Stream(status) => stream_text(status),
+            ApiFault::NoMemory => "no memory",
         }
     }
 
@@ -139,13 +137,13 @@ impl Wrong {
         ensures { result ≡ extra_of self }
     {
         match self {
-            Wrong::NoMethod(methods) => methods,
-            Wrong::NoResource
-            | Wrong::Body(_)
-            | Wrong::NoActivation
-            | Wrong::Refused(_)
-            | Wrong::Stream(_)
-            | Wrong::NoMemory => Extra::Nothing,
+            ApiFault::NoMethod(methods) => methods,
+            ApiFault::NoResource
+            | ApiFault::Body(_)
+            | ApiFault::NoActivation
+            | ApiFault::Refused(_)
+            | ApiFault::Stream(_)
+            | ApiFault::NoMemory => Extra::Nothing,
         }
     }
 }

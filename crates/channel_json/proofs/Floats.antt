@@ -17,7 +17,7 @@ use Rattle.io_caps.specs.declared.port.Parent.{Parent}
 use Rattle.io_caps.specs.declared.port.Parent.TheVariants.{Nobody, Source, Receiver}
 use Rattle.io_caps.specs.declared.port.Routable.{Routable}
 use Rattle.io_caps.specs.declared.port.Routable.TheVariants.{All as Anything, Only}
-use Rattle.tai_time.specs.Tick.{tick_start}
+use Rattle.tai_time.specs.Tick.{moment_start}
 use Rattle.tai_time.specs.Time.{time_of, nanos_limit}
 use Rattle.map_entry.specs.Action.{OutputChangeParts}
 use Rattle.map_entry.specs.declared.cell.Cell.{Cell}
@@ -121,38 +121,44 @@ at_test : (test : Bool) (nanos : ℕ) → has_float (cond test (time_data (time_
 at_test true nanos = refl
 at_test false nanos = refl
 
-whole_start : (rate : Rate) (tick : ℕ) → has_float (start_data rate tick) ≡ false
-whole_start rate tick = at_test (nat_lt (tick_start rate tick) nanos_limit) (tick_start rate tick)
+whole_start : (rate : Rate) (tick offset : ℕ) → has_float (start_data rate tick offset) ≡ false
+whole_start rate tick offset =
+    at_test (nat_lt (moment_start rate tick offset) nanos_limit) (moment_start rate tick offset)
 
 whole_requested : (when : When) → has_float (requested_data when) ≡ false
 whole_requested Now = refl
 whole_requested (At time) = refl
 whole_requested (After time) = refl
 
-whole_activation : (device : DeviceParts) (when : When) (tick : ℕ)
-    → has_float (activation_data device when tick) ≡ false
-whole_activation device when tick =
-    or_from _ _ (whole_start device.rate tick) (or_from _ _ (whole_requested when) refl)
+whole_activation : (device : DeviceParts) (when : When) (tick offset : ℕ)
+    → has_float (activation_data device when tick offset) ≡ false
+whole_activation device when tick offset =
+    or_from _ _ (whole_start device.rate tick offset) (or_from _ _ (whole_requested when) refl)
 
 whole_last : (device : DeviceParts) (last : Option Activation)
     → has_float (last_data device last) ≡ false
 whole_last device None = refl
-whole_last device (Some activation) = whole_activation device activation.when activation.tick
+whole_last device (Some activation) =
+    whole_activation device activation.when activation.tick activation.offset
 
-pub whole_item : (device : DeviceParts) (when : When) (tick : ℕ) (action : List OutputChangeParts)
-    → has_float (item_data device when tick action) ≡ false
-whole_item device when tick action =
-    or_from _ _ (whole_action device action) (or_from _ _ (whole_activation device when tick) refl)
-
-pub whole_accepted : (device : DeviceParts) (id : ℕ) (when : When) (tick : ℕ)
+pub whole_item : (device : DeviceParts) (when : When) (tick offset : ℕ)
     (action : List OutputChangeParts)
-    → has_float (accepted_data device id when tick action) ≡ false
-whole_accepted device id when tick action = or_from _ _ (whole_item device when tick action) refl
+    → has_float (item_data device when tick offset action) ≡ false
+whole_item device when tick offset action =
+    or_from _ _ (whole_action device action)
+    (or_from _ _ (whole_activation device when tick offset) refl)
+
+pub whole_accepted : (device : DeviceParts) (id : ℕ) (when : When) (tick offset : ℕ)
+    (action : List OutputChangeParts)
+    → has_float (accepted_data device id when tick offset action) ≡ false
+whole_accepted device id when tick offset action =
+    or_from _ _ (whole_item device when tick offset action) refl
 
 pub whole_pending : (device : DeviceParts) (items : List PendingItem)
     → has_float (pending_data device items) ≡ false
 whole_pending device items =
-    whole_object (pending_member device) items (λ i. whole_item device i.when i.tick i.action)
+    whole_object (pending_member device) items
+    (λ i. whole_item device i.when i.tick i.offset i.action)
 
 pub whole_active : (device : DeviceParts) (view : ActiveView) (only : Option ℕ)
     → has_float (active_data device view only) ≡ false

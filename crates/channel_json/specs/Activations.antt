@@ -6,7 +6,7 @@ use Rattle.serde_json.specs.Data.{Data, null, string, object, no_members, member
 use Rattle.serde_json.specs.Written.{compact_text}
 use Rattle.io_caps.specs.declared.device.DeviceParts.{DeviceParts}
 use Rattle.io_caps.specs.declared.rate.Rate.{Rate}
-use Rattle.tai_time.specs.Tick.{tick_start}
+use Rattle.tai_time.specs.Tick.{moment_start}
 use Rattle.tai_time.specs.Time.{TaiTime, tai_text, time_of, nanos_limit}
 use Rattle.map_entry.specs.Action.{OutputChangeParts}
 use Rattle.book_words.specs.declared.requests.When.{When}
@@ -23,10 +23,12 @@ use Rattle.channel_json.specs.Cells.{action_data, map_data}
 abbrev pub time_data : TaiTime → Data
 time_data time = string (tai_text time)
 
--- the start of a tick; null where that is past the end of time, which no accepted activation is
-abbrev pub start_data : Rate → ℕ → Data
-start_data rate tick =
-    if nat_lt (tick_start rate tick) nanos_limit then time_data (time_of (tick_start rate tick))
+-- the start of a frame of a tick; null where that is past the end of time, which no accepted
+-- activation is
+abbrev pub start_data : Rate → ℕ → ℕ → Data
+start_data rate tick offset =
+    if nat_lt (moment_start rate tick offset) nanos_limit
+    then time_data (time_of (moment_start rate tick offset))
     else null
 
 -- the word for when an activation is to count
@@ -49,15 +51,17 @@ moment_data time mode requested =
     (member (codes "mode") mode
     (member (codes "requested_time") requested no_members)))
 
--- an activation that counts from a tick
-abbrev pub activation_data : DeviceParts → When → ℕ → Data
-activation_data device when tick =
-    moment_data (start_data device.rate tick) (string (mode_text when)) (requested_data when)
+-- an activation that counts from a frame of a tick
+abbrev pub activation_data : DeviceParts → When → ℕ → ℕ → Data
+activation_data device when tick offset =
+    moment_data (start_data device.rate tick offset) (string (mode_text when))
+    (requested_data when)
 
 -- the activation that the active map shows: nulls where there is none
 abbrev pub last_data : DeviceParts → Option Activation → Data
 last_data device None = moment_data null null null
-last_data device (Some activation) = activation_data device activation.when activation.tick
+last_data device (Some activation) =
+    activation_data device activation.when activation.tick activation.offset
 
 -- ---- bodies
 
@@ -67,18 +71,19 @@ joined_data action activation =
     object (member (codes "action") action (member (codes "activation") activation no_members))
 
 -- what is changed, and when
-abbrev pub item_data : DeviceParts → When → ℕ → List OutputChangeParts → Data
-item_data device when tick action =
-    joined_data (action_data device action) (activation_data device when tick)
+abbrev pub item_data : DeviceParts → When → ℕ → ℕ → List OutputChangeParts → Data
+item_data device when tick offset action =
+    joined_data (action_data device action) (activation_data device when tick offset)
 
 -- the reply to an accepted activation: an object with its id as the one key
-abbrev pub accepted_data : DeviceParts → ℕ → When → ℕ → List OutputChangeParts → Data
-accepted_data device id when tick action =
-    object (member (decimal id) (item_data device when tick action) no_members)
+abbrev pub accepted_data : DeviceParts → ℕ → When → ℕ → ℕ → List OutputChangeParts → Data
+accepted_data device id when tick offset action =
+    object (member (decimal id) (item_data device when tick offset action) no_members)
 
 -- a pending activation under its id
 abbrev pub pending_member : DeviceParts → PendingItem → List ℕ × Data
-pending_member device item = (decimal item.id, item_data device item.when item.tick item.action)
+pending_member device item =
+    (decimal item.id, item_data device item.when item.tick item.offset item.action)
 
 -- the pending activations: an object from id to item
 abbrev pub pending_data : DeviceParts → List PendingItem → Data
@@ -91,12 +96,14 @@ active_data device view only =
     (member (codes "map") (map_data device view.rows only) no_members))
 
 -- the text of the reply to an accepted activation
-abbrev pub accepted_text : DeviceParts → ℕ → When → ℕ → List OutputChangeParts → List ℕ
-accepted_text device id when tick action = compact_text (accepted_data device id when tick action)
+abbrev pub accepted_text : DeviceParts → ℕ → When → ℕ → ℕ → List OutputChangeParts → List ℕ
+accepted_text device id when tick offset action =
+    compact_text (accepted_data device id when tick offset action)
 
 -- the text of a pending activation
 abbrev pub item_text : DeviceParts → PendingItem → List ℕ
-item_text device item = compact_text (item_data device item.when item.tick item.action)
+item_text device item =
+    compact_text (item_data device item.when item.tick item.offset item.action)
 
 -- the text of the pending activations
 abbrev pub pending_text : DeviceParts → List PendingItem → List ℕ

@@ -18,7 +18,7 @@ use itoa::Buffer;
 use map_entry::{Action, OutputChange};
 use serde_json::{Map, Value, json, put};
 use std::alloc::{AllocError, Global};
-use tai_time::{Tai, tick_start};
+use tai_time::{Tai, moment_start};
 
 /// The text of a time.
 fn time_value(alloc: Global, time: Tai) -> Result<Value, NoMemory>
@@ -29,12 +29,12 @@ fn time_value(alloc: Global, time: Tai) -> Result<Value, NoMemory>
     Ok(Value::try_from_str(alloc, shown(text.as_slice()))?)
 }
 
-/// The start of a tick, and null where that is past the end of time.
-fn start_value(alloc: Global, rate: Rate, tick: u64) -> Result<Value, NoMemory>
+/// The start of a frame of a tick, and null where that is past the end of time.
+fn start_value(alloc: Global, rate: Rate, tick: u64, offset: u16) -> Result<Value, NoMemory>
     requires { IsRate rate }
-    ensures { IfOk result (λ v. view v ≡ start_data rate tick) }
+    ensures { IfOk result (λ v. view v ≡ start_data rate tick offset) }
 {
-    match tick_start(tick, rate) {
+    match moment_start(tick, offset, rate) {
         Some(time) => time_value(alloc, time),
         None => Ok(Value::Null),
     }
@@ -79,10 +79,11 @@ fn activation_value(
     device: &Device,
     when: &When,
     tick: u64,
+    offset: u16,
 ) -> Result<Value, NoMemory>
-    ensures { IfOk result (λ v. view v ≡ activation_data device.now when.now tick) }
+    ensures { IfOk result (λ v. view v ≡ activation_data device.now when.now tick offset) }
 {
-    let time = start_value(alloc, device.rate(), tick)?;
+    let time = start_value(alloc, device.rate(), tick, offset)?;
     let requested = requested_value(alloc, when)?;
     Ok(moment_value(alloc, time, mode_text(when), requested)?)
 }
@@ -99,7 +100,7 @@ fn last_value(alloc: Global, device: &Device, last: &Option<Activation>) -> Resu
 {
     match last {
         None => Ok(no_activation(alloc)?),
-        Some(last) => activation_value(alloc, device, &last.when, last.tick),
+        Some(last) => activation_value(alloc, device, &last.when, last.tick, last.offset),
     }
 }
 
@@ -115,13 +116,23 @@ fn item_value(
     device: &Device,
     when: &When,
     tick: u64,
+    offset: u16,
     action: &[OutputChange],
 ) -> Result<Value, NoMemory>
-    ensures { IfOk result (λ v. view v ≡ item_data device.now when.now tick action.now) }
+    ensures { IfOk result (λ v. view v ≡ item_data device.now when.now tick offset action.now) }
 {
     let action = action_value(alloc, device, action)?;
-    let activation = activation_value(alloc, device, when, tick)?;
+    let activation = activation_value(alloc, device, when, tick, offset)?;
     Ok(joined_value(alloc, action, activation)?)
+}
+
+/// A pending activation.
+fn pending_item_value(alloc: Global, device: &Device, item: &PendingItem) -> Result<Value, NoMemory>
+    ensures { IfOk result (λ v. view v ≡ item_data device.now item.now.when item.now.tick
+        item.now.offset item.now.action) }
+{
+    let action = item.action.as_slice();
+    item_value(alloc, device, &item.when, item.tick, item.offset, action)
 }
 
 /// The pending activations, each under its id.
@@ -130,7 +141,7 @@ fn pending_value(alloc: Global, device: &Device, items: &[PendingItem]) -> Resul
 {
     let mut map = Map::new(alloc);
     for item in items {
-        let value = item_value(alloc, device, &item.when, item.tick, item.action.as_slice())?;
+        let value = pending_item_value(alloc, device, item)?;
         put(&mut map, alloc, Buffer::new().format(item.id), value)?;
     }
     Ok(Value::Object(map))
@@ -142,11 +153,13 @@ fn accepted_value(
     id: u64,
     when: &When,
     tick: u64,
+    offset: u16,
     action: &Action,
 ) -> Result<Value, NoMemory>
-    ensures { IfOk result (λ v. view v ≡ accepted_data device.now id when.now tick action.now) }
+    ensures { IfOk result (λ v. view v
+        ≡ accepted_data device.now id when.now tick offset action.now) }
 {
-    let value = item_value(alloc, device, when, tick, action.as_slice())?;
+    let value = item_value(alloc, device, when, tick, offset, action.as_slice())?;
     let mut map = Map::new(alloc);
     put(&mut map, alloc, Buffer::new().format(id), value)?;
     Ok(Value::Object(map))
@@ -173,14 +186,15 @@ pub fn activation_body(
     id: u64,
     when: &When,
     tick: u64,
+    offset: u16,
     action: &Action,
     out: &mut Vec<u8>,
 ) -> Result<(), NoMemory>
     ensures ok { OnOk result (out.new.items ≡ out.old.items
-        ++ accepted_text device.now id when.now tick action.now) }
+        ++ accepted_text device.now id when.now tick offset action.now) }
     ensures err { OnErr result (out.new.items ≡ out.old.items) }
 {
-    let value = accepted_value(alloc, device, id, when, tick, action)?;
+    let value = accepted_value(alloc, device, id, when, tick, offset, action)?;
     append(alloc, &value, out)
 }
 
@@ -195,7 +209,7 @@ pub fn item_body(
     ensures ok { OnOk result (out.new.items ≡ out.old.items ++ item_text device.now item.now) }
     ensures err { OnErr result (out.new.items ≡ out.old.items) }
 {
-    let value = item_value(alloc, device, &item.when, item.tick, item.action.as_slice())?;
+    let value = pending_item_value(alloc, device, item)?;
     append(alloc, &value, out)
 }
 

@@ -4,7 +4,7 @@ use crate::{
     BodyFault, DeviceJsonFault, Place, Resource, activation_body, active_body, device_of,
     error_body, item_body, pending_body, request_of, resource_body,
 };
-use book_words::{ActiveView, PendingItem, PendingItems, Request, When};
+use book_words::{Activation, ActiveView, PendingItem, PendingItems, Request, When};
 use io_caps::{Device, DeviceFault, NoMemory, Or, Slot, TryCopy};
 use map_entry::{Action, RowFault, Setup, SetupFault};
 use std::alloc::Global;
@@ -317,11 +317,11 @@ const LARGE: [([usize; 3], usize, usize, Option<DeviceFault>); 6] = [
     (
         [1, 1, 1],
         5,
-        32,
+        64,
         Some(DeviceFault::DoubleId(Slot::Source(3))),
     ),
     ([1, 1, 1], 6, 1, Some(DeviceFault::ManyInputs)),
-    ([1, 1, 1], 0, 33, Some(DeviceFault::ManyOutputs)),
+    ([1, 1, 1], 0, 65, Some(DeviceFault::ManyOutputs)),
 ];
 
 #[test]
@@ -608,11 +608,28 @@ const UNROUTED: &str = "{\"activation\":\
 
 #[test]
 fn active_map(rt: HostRuntime) -> Result<(), Fail> {
-    let Setup { device, rows } = setup(rt.alloc())?;
+    let Setup { device, rows, .. } = setup(rt.alloc())?;
     let view = ActiveView { last: None, rows };
     let mut out = Vec::new(rt.alloc());
     active_body(rt.alloc(), &device, &view, None, &mut out)?;
     assert_eq!(rt; out.as_slice(), UNROUTED.as_bytes());
+    Ok(())
+}
+
+/// The active map of one output after an activation that counts from the second frame of tick 10.
+const FROM_FRAME: &str = "{\"activation\":\
+    {\"activation_time\":\"0:437500\",\"mode\":\"activate_immediate\",\"requested_time\":null},\
+    \"map\":{\"x\":{\"0\":{\"channel_index\":null,\"input\":null},\
+    \"1\":{\"channel_index\":null,\"input\":null}}}}";
+
+#[test]
+fn start_of_a_frame(rt: HostRuntime) -> Result<(), Fail> {
+    let Setup { device, rows, .. } = setup(rt.alloc())?;
+    let last = Some(Activation::new(1, When::Now, 10, 1));
+    let view = ActiveView { last, rows };
+    let mut out = Vec::new(rt.alloc());
+    active_body(rt.alloc(), &device, &view, Some(0), &mut out)?;
+    assert_eq!(rt; out.as_slice(), FROM_FRAME.as_bytes());
     Ok(())
 }
 
@@ -635,15 +652,15 @@ fn check_items(
     action: Action,
 ) -> Result<(), Fail> {
     let mut out = Vec::new(alloc);
-    activation_body(alloc, device, 7, &when, 10, &action, &mut out)?;
+    activation_body(alloc, device, 7, &when, 10, 0, &action, &mut out)?;
     let wanted = format!(in alloc; "{{\"7\":{ITEM}}}")?;
     assert_eq!(rt; out.as_slice(), wanted.as_bytes());
-    let item = PendingItem::new(10, when, 10, action);
+    let item = PendingItem::new(10, when, 10, 0, action);
     out.clear();
     item_body(alloc, device, &item, &mut out)?;
     assert_eq!(rt; out.as_slice(), ITEM.as_bytes());
     let mut items = PendingItems::new(alloc);
-    let again = PendingItem::new(9, when, 10, item.action.copy()?);
+    let again = PendingItem::new(9, when, 10, 0, item.action.copy()?);
     items.push(again)?;
     items.push(item)?;
     out.clear();

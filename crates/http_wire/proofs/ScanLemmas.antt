@@ -16,8 +16,8 @@ use Rattle.http_wire.specs.Scan.{has_line_from, is_begun_behind, HasNoLine}
 use Rattle.http_wire.specs.Found.{HasHead, IsKnown}
 use Rattle.http_wire.specs.Line.{lines_text, HasPart}
 use Rattle.http_wire.specs.declared.head.Head.{Head}
-use Rattle.http_wire.specs.declared.known.Known.{Known}
-use Rattle.http_wire.specs.declared.known.Known.TheVariants.{NoLine, Lines, OpenLine, Whole}
+use Rattle.http_wire.specs.declared.known.HeadScan.{HeadScan}
+use Rattle.http_wire.specs.declared.known.HeadScan.TheVariants.{NoLine, Lines, OpenLine, Whole}
 use Rattle.http_wire.specs.declared.line.Part.{Part}
 use Rattle.http_wire.proofs.HeadLemmas.{skip_blank, stopped}
 use Rattle.http_wire.proofs.FoundLemmas.{has_head_append}
@@ -140,7 +140,8 @@ no_line_known bytes seen begun behind known none behind_is =
     }
 
 -- what is known stays known when more bytes come
-pub known_more : (bytes : List ℕ) (known : Known) (more : List ℕ) → IsKnown bytes known → IsKnown (bytes ++ more) known
+pub known_more : (bytes : List ℕ) (known : HeadScan) (more : List ℕ) → IsKnown bytes known
+    → IsKnown (bytes ++ more) known
 known_more bytes (NoLine seen begun) more is =
     let same = take-append-le seen bytes more is.within in
     record { within = omega (arith, is.within, length-append bytes more); none = rw same is.none; begun_is = rw same is.begun_is }
@@ -149,7 +150,8 @@ known_more bytes (OpenLine seen part) more is =
     (omega (arith, is.0, length-append bytes more), subst (λ (s : List ℕ). HasPart s part) (sym (take-append-le seen bytes more is.0)) is.1)
 known_more bytes (Whole head) more is = has_head_append bytes head more is
 
-pub fed_known : {A E : Type 0} (result : Result A E) (bytes : List ℕ) (known : Known) (more new : List ℕ) → IsKnown bytes known
+pub fed_known : {A E : Type 0} (result : Result A E) (bytes : List ℕ) (known : HeadScan)
+    (more new : List ℕ) → IsKnown bytes known
     → OnOk result (new ≡ bytes ++ more) → OnErr result (new ≡ bytes) → IsKnown new known
 fed_known (Ok v) bytes known more new is ok err = subst (λ (s : List ℕ). IsKnown s known) (sym ok) (known_more bytes known more is)
 fed_known (Err e) bytes known more new is ok err = subst (λ (s : List ℕ). IsKnown s known) (sym err) is

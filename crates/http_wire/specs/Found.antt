@@ -11,8 +11,8 @@ use Rattle.http_wire.specs.Request.{method_in, path_in, framing_in, closes_in}
 use Rattle.http_wire.specs.Stream.{BeginsWith, IsShort, IsRefused}
 use Rattle.http_wire.specs.declared.fields.Framing.TheVariants.{Body}
 use Rattle.http_wire.specs.declared.head.Head.{Head}
-use Rattle.http_wire.specs.declared.known.Known.{Known}
-use Rattle.http_wire.specs.declared.known.Known.TheVariants.{NoLine, Lines, OpenLine, Whole}
+use Rattle.http_wire.specs.declared.known.HeadScan.{HeadScan}
+use Rattle.http_wire.specs.declared.known.HeadScan.TheVariants.{NoLine, Lines, OpenLine, Whole}
 use Rattle.http_wire.specs.declared.head.Front.{Front}
 use Rattle.http_wire.specs.declared.head.Front.TheVariants.{Awaited, Refused, Found}
 use Rattle.http_wire.specs.declared.request.HttpRequest.{HttpRequest}
@@ -50,7 +50,7 @@ IsFront bytes (Refused status) = IsRefused bytes status
 IsFront bytes (Found head) = HasHead bytes head
 
 -- what is known of the bytes, or of a front of them of a given length
-abbrev pub IsKnown : List ℕ → Known → Type 0
+abbrev pub IsKnown : List ℕ → HeadScan → Type 0
 IsKnown bytes (NoLine seen begun) = HasNoLine bytes seen begun
 IsKnown bytes Lines = has_line bytes ≡ true
 IsKnown bytes (OpenLine seen part) = (seen ≤ length bytes) × HasPart (take seen bytes) part

@@ -16,7 +16,7 @@ reasons =
     ∷ (400, codes "Bad Request") ∷ (404, codes "Not Found") ∷ (405, codes "Method Not Allowed")
     ∷ (411, codes "Length Required") ∷ (413, codes "Content Too Large") ∷ (423, codes "Locked")
     ∷ (431, codes "Request Header Fields Too Large") ∷ (503, codes "Service Unavailable")
-    ∷ (507, codes "Insufficient Storage") ∷ []
+    ∷ []
 
 -- the phrase that stands beside a status in a table
 abbrev pub phrase_in : List (ℕ × List ℕ) → ℕ → List ℕ

@@ -8,13 +8,13 @@ use std::marker::Model;
 
 /// Bytes that came and were not taken yet.
 #[derive(Drop)]
-pub struct Held {
+pub struct ByteQueue {
     buffer: Vec<u8>,
     /// How many bytes at the front of the buffer were taken.
     taken: usize,
 }
 
-impl Model for Held {
+impl Model for ByteQueue {
     ghost use Rattle.std.specs.Prelude.{List, ℕ, drop, length, ◌≤◌};
 
     ghost Value = { List ℕ };
@@ -24,12 +24,12 @@ impl Model for Held {
     ghost invariant = { λ h. h.taken ≤ length h.buffer.items };
 }
 
-impl Held {
+impl ByteQueue {
     /// No bytes.
-    pub(crate) fn new(alloc: Global) -> Held
+    pub(crate) fn new(alloc: Global) -> ByteQueue
         ensures { result ≡ [] }
     {
-        Held {
+        ByteQueue {
             buffer: Vec::new(alloc),
             taken: 0,
         }

@@ -12,7 +12,7 @@ use crate::scan::scan_line;
 
 /// What is known of bytes. It stays so when more bytes come.
 #[derive(Clone, Copy)]
-pub enum Known {
+pub enum HeadScan {
     /// The first `seen` bytes have no whole line; whether one has begun.
     NoLine { seen: usize, begun: bool },
     /// A line is whole.
@@ -37,51 +37,51 @@ fn whole_lines(bytes: &[u8]) -> &[u8]
     lines
 }
 
-impl Known {
+impl HeadScan {
     /// Nothing is known.
-    pub(crate) const NOTHING: Known = Known::NoLine {
+    pub(crate) const NOTHING: HeadScan = HeadScan::NoLine {
         seen: 0,
         begun: false,
     };
 
     /// What is known once more bytes came, where these cannot end a head nor make it one that
     /// cannot come; `None` where the head is to be read.
-    fn go_on(self, bytes: &[u8]) -> Option<Known>
+    fn go_on(self, bytes: &[u8]) -> Option<HeadScan>
         requires { IsKnown bytes.now self }
         ensures open { IfSome result (λ known. IsOpen bytes.now) }
         ensures known { IfSome result (λ known. IsKnown bytes.now known) }
         ensures none { IfNone result (has_line bytes.now ≡ true) }
     {
         match self {
-            Known::NoLine { seen, begun } => match scan_line(begun, &bytes[seen..]) {
+            HeadScan::NoLine { seen, begun } => match scan_line(begun, &bytes[seen..]) {
                 None => None,
-                Some(begun) => Some(Known::NoLine {
+                Some(begun) => Some(HeadScan::NoLine {
                     seen: bytes.len(),
                     begun,
                 }),
             },
-            Known::OpenLine { seen, part } => match part.with_bytes(&bytes[seen..]) {
+            HeadScan::OpenLine { seen, part } => match part.with_bytes(&bytes[seen..]) {
                 None => None,
-                Some(part) => Some(Known::OpenLine {
+                Some(part) => Some(HeadScan::OpenLine {
                     seen: bytes.len(),
                     part,
                 }),
             },
-            Known::Lines => None,
-            Known::Whole(_) => None,
+            HeadScan::Lines => None,
+            HeadScan::Whole(_) => None,
         }
     }
 
     /// What is known of bytes that can become a head.
-    fn of_open(bytes: &[u8]) -> Known
+    fn of_open(bytes: &[u8]) -> HeadScan
         requires open { IsOpen bytes.now }
         requires line { has_line bytes.now ≡ true }
         ensures { IsKnown bytes.now result }
     {
         let lines = whole_lines(bytes);
         match Part::Start.with_bytes(&bytes[lines.len()..]) {
-            None => Known::Lines,
-            Some(part) => Known::OpenLine {
+            None => HeadScan::Lines,
+            Some(part) => HeadScan::OpenLine {
                 seen: bytes.len(),
                 part,
             },
@@ -95,7 +95,7 @@ impl Known {
         ensures front { IsFront bytes.now result }
         ensures known { IsKnown bytes.now self.new }
     {
-        if let Known::Whole(head) = *self {
+        if let HeadScan::Whole(head) = *self {
             return Front::Found(head);
         }
         let known = self.go_on(bytes);
@@ -107,9 +107,9 @@ impl Known {
         }
         let front = read_front(bytes);
         *self = match front {
-            Front::Awaited => Known::of_open(bytes),
-            Front::Found(head) => Known::Whole(head),
-            Front::Refused(_) => Known::NOTHING,
+            Front::Awaited => HeadScan::of_open(bytes),
+            Front::Found(head) => HeadScan::Whole(head),
+            Front::Refused(_) => HeadScan::NOTHING,
         };
         front
     }

@@ -47,8 +47,7 @@ fn reason(status: u16) -> &'static str
         status::CONTENT_TOO_LARGE => "Content Too Large",
         status::LOCKED => "Locked",
         status::FIELDS_TOO_LARGE => "Request Header Fields Too Large",
-        status::SERVICE_UNAVAILABLE => "Service Unavailable",
-        _ => "Insufficient Storage",
+        _ => "Service Unavailable",
     }
 }
 

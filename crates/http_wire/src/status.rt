@@ -1,4 +1,4 @@
-//! The status codes that are answered (RFC 9110 section 15; RFC 4918 section 11 for 423 and 507;
+//! The status codes that are answered (RFC 9110 section 15; RFC 4918 section 11.3 for 423;
 //! RFC 6585 section 5 for 431).
 
 /// It was done.
@@ -33,9 +33,6 @@ pub const FIELDS_TOO_LARGE: u16 = 431;
 
 /// Memory ran out, and the connection ends.
 pub const SERVICE_UNAVAILABLE: u16 = 503;
-
-/// There is no room for what was asked.
-pub const INSUFFICIENT_STORAGE: u16 = 507;
 
 // Definitions cite the names of those that a stream answers.
 const _: () = prove!(BAD_REQUEST == 400);

@@ -5,8 +5,8 @@ ghost use Rattle.http_wire.specs.Stream.{holds, ended, fed, Steps, IsAnswered, F
 
 use crate::HttpRequest;
 use crate::head::Front;
-use crate::held::Held;
-use crate::known::Known;
+use crate::held::ByteQueue;
+use crate::known::HeadScan;
 use io_caps::{NoMemory, TryCopy};
 use std::alloc::Global;
 use std::marker::Model;
@@ -40,9 +40,9 @@ impl TryCopy for Next {
 #[derive(Drop)]
 pub struct Stream {
     alloc: Global,
-    held: Held,
+    held: ByteQueue,
     /// What is known of the bytes that are held.
-    known: Known,
+    known: HeadScan,
     closed: bool,
 }
 
@@ -66,8 +66,8 @@ impl Stream {
     {
         Ok(Stream {
             alloc,
-            held: Held::new(alloc),
-            known: Known::NOTHING,
+            held: ByteQueue::new(alloc),
+            known: HeadScan::NOTHING,
             closed: false,
         })
     }
@@ -99,7 +99,7 @@ impl Stream {
             Front::Awaited => Ok(Next::Need),
             Front::Refused(status) => {
                 self.held.clear();
-                self.known = Known::NOTHING;
+                self.known = HeadScan::NOTHING;
                 self.closed = true;
                 Ok(Next::Bad { status })
             }
@@ -107,7 +107,7 @@ impl Stream {
                 None => Ok(Next::Need),
                 Some(request) => {
                     self.held.take(head.len + head.body);
-                    self.known = Known::NOTHING;
+                    self.known = HeadScan::NOTHING;
                     self.closed = request.closes;
                     Ok(Next::Request(request))
                 }

@@ -455,6 +455,6 @@ fn reasons(rt: HostRuntime) -> Result<(), Fail> {
         431,
         "HTTP/1.1 431 Request Header Fields Too Large\r\n",
     )?;
-    check_reason(&rt, alloc, 507, "HTTP/1.1 507 Insufficient Storage\r\n")?;
+    check_reason(&rt, alloc, 503, "HTTP/1.1 503 Service Unavailable\r\n")?;
     Ok(())
 }

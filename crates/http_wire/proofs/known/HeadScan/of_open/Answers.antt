@@ -2,7 +2,7 @@ use Rattle.std.proofs.Common.{ℕ, List, sym, subst, length, take_all, arith}
 use Rattle.std.proofs.lemmas.List.{take_rest}
 use Rattle.http_wire.specs.Line.{HasPart}
 use Rattle.http_wire.proofs.CutLemmas.{part_of_open}
-use Rattle.http_wire.proofs.known.Known.of_open.Goals as goal
+use Rattle.http_wire.proofs.known.HeadScan.of_open.Goals as goal
 
 pub returns-in-Some : goal.returns-in-Some
 returns-in-Some c =

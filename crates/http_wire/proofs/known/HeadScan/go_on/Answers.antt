@@ -2,7 +2,7 @@ use Rattle.std.proofs.Common.{◌∙◌}
 use Rattle.std.proofs.lemmas.List.{take_rest}
 use Rattle.http_wire.proofs.LineLemmas.{open_part, part_goes_on}
 use Rattle.http_wire.proofs.ScanLemmas.{line_behind, line_of_head, line_of_front, no_line_open, no_line_known}
-use Rattle.http_wire.proofs.known.Known.go_on.Goals as goal
+use Rattle.http_wire.proofs.known.HeadScan.go_on.Goals as goal
 
 pub returns-in-None-clause-none : goal.returns-in-None-clause-none
 returns-in-None-clause-none c =
