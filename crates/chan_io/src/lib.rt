@@ -15,4 +15,4 @@ pub use memory::{MemSink, MemSource};
 pub use outgoing::Outgoing;
 pub use standard::{StdSink, StdSource};
 pub use streams::{Failed, Sink, Source};
-pub use whole::{Unread, read_whole, write_whole};
+pub use whole::{SourceFault, read_whole, write_whole};

@@ -1,8 +1,8 @@
 ghost use Rattle.std.specs.Prelude.{◌≡◌, ◌<◌, IfOk};
 
 use crate::{
-    Failed, MemSink, MemSource, Outgoing, Sink, Source, StdSink, StdSource, Unread, read_whole,
-    write_whole,
+    Failed, MemSink, MemSource, Outgoing, Sink, Source, SourceFault, StdSink, StdSource,
+    read_whole, write_whole,
 };
 use std::alloc::Global;
 use std::io::{self, ErrorKind, Read, Write};
@@ -52,7 +52,7 @@ fn failing_source(rt: HostRuntime) -> Result<(), Fail> {
     assert_eq!(rt; source.read(&mut buffer), Err(Failed));
     // the second read gives seven bytes, and the third fails
     let cut = read_whole(alloc, &mut source, 20);
-    assert!(rt; matches!(cut, Err(Unread::Failed)));
+    assert!(rt; matches!(cut, Err(SourceFault::Failed)));
     let rest = read_whole(alloc, &mut source, 20).ok().ok_or("no rest")?;
     assert_eq!(rt; rest.as_slice(), &whole[7..]);
     Ok(())
@@ -67,7 +67,7 @@ fn limit_of_a_source(rt: HostRuntime) -> Result<(), Fail> {
     assert_eq!(rt; bytes.as_slice(), whole.as_slice());
     let mut source = MemSource::new(whole.clone()?, 64, Vec::new(alloc));
     let long = read_whole(alloc, &mut source, 18);
-    assert!(rt; matches!(long, Err(Unread::TooLong)));
+    assert!(rt; matches!(long, Err(SourceFault::TooLong)));
     let mut buffer = [0u8; 16];
     assert_eq!(rt; source.read(&mut buffer), Ok(1));
     assert_eq!(rt; buffer[0], 19);

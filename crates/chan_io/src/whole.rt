@@ -14,7 +14,7 @@ const PIECE: usize = 65_536;
 
 /// Why a source was not read to its end.
 #[derive(Clone, Copy, Debug, PartialEq, Eq, Error)]
-pub enum Unread {
+pub enum SourceFault {
     /// The source failed.
     #[error("the source failed")]
     Failed,
@@ -32,17 +32,21 @@ pub enum Unread {
 /// and the bytes in hand are let go. `Failed` comes only where the source's count of faults rose in
 /// this call, and like `NoMemory` where at most `limit` bytes were read.
 #[tactic(auto, using(crate::proofs::Told::steps))]
-pub fn read_whole<S: Source>(alloc: Global, source: &mut S, limit: usize) -> Result<Vec<u8>, Unread>
+pub fn read_whole<S: Source>(
+    alloc: Global,
+    source: &mut S,
+    limit: usize,
+) -> Result<Vec<u8>, SourceFault>
     ensures later { S.faults source.old ≤ S.faults source.new }
     ensures whole { IfOk result
         (λ bytes. WholeRead (S.left source.old) (S.left source.new) limit bytes.items) }
-    ensures failed { IsErrOf result Unread.Failed
+    ensures failed { IsErrOf result SourceFault.Failed
         → Rose (S.faults source.old) (S.faults source.new) }
-    ensures short { IsErrOf result Unread.Failed
+    ensures short { IsErrOf result SourceFault.Failed
         → BoundedRead (S.left source.old) (S.left source.new) limit }
-    ensures kept { IsErrOf result Unread.NoMemory
+    ensures kept { IsErrOf result SourceFault.NoMemory
         → BoundedRead (S.left source.old) (S.left source.new) limit }
-    ensures long { IsErrOf result Unread.TooLong
+    ensures long { IsErrOf result SourceFault.TooLong
         → LongRead (S.left source.old) (S.left source.new) limit }
     ensures most { BoundedRead (S.left source.old) (S.left source.new) (limit + 1) }
 {
@@ -51,16 +55,16 @@ pub fn read_whole<S: Source>(alloc: Global, source: &mut S, limit: usize) -> Res
     loop {
         let room = (limit - bytes.len()).min(PIECE - 1) + 1;
         let Ok(count) = source.read(&mut buffer[..room]) else {
-            return Err(Unread::Failed);
+            return Err(SourceFault::Failed);
         };
         if count == 0 {
             return Ok(bytes);
         }
         if count > limit - bytes.len() {
-            return Err(Unread::TooLong);
+            return Err(SourceFault::TooLong);
         }
         if bytes.extend_from_slice(&buffer[..count]).is_err() {
-            return Err(Unread::NoMemory);
+            return Err(SourceFault::NoMemory);
         }
     }
 }
