@@ -1,0 +1,13 @@
+pub mod Cuts
+pub mod MediaWords
+pub mod Digits
+pub mod Sections
+pub mod Faults
+pub mod Numbered
+pub mod Joined
+pub mod Devices
+pub mod Spelled
+pub mod SpelledLines
+pub mod Descriptions
+pub use Rattle.exact_text.proofs.Growth.{growth}
+pub use Rattle.sdp_audio.proofs.Joined.{joined}
