@@ -1,6 +1,6 @@
 -- The records of calls and replies are short.
 use Rattle.std.proofs.Common.{◌≡◌, ℕ, ◌+◌, ◌*◌, ◌^◌, ◌<◌, ◌≤◌, List, [], ◌∷◌, ◌++◌, length, map}
-use Rattle.std.proofs.Common.{Some, None, refl, ap, arith, inl, inr, ◌⊎◌}
+use Rattle.std.proofs.Common.{Option, Some, None, refl, ap, arith, inl, inr, ◌⊎◌}
 use Rattle.std.specs.List.{AllByRecursion, AllZip, flat_map}
 use Rattle.std.proofs.lemmas.List.{length-append, length-map}
 use Rattle.std.proofs.lemmas.List.Concat.{flat_map-cons}
@@ -10,7 +10,7 @@ use Rattle.io_caps.specs.Port.{AreChannels}
 use Rattle.io_caps.specs.declared.device.DeviceParts.{DeviceParts}
 use Rattle.io_caps.specs.declared.port.Output.{Output}
 use Rattle.map_entry.specs.declared.cell.Cell.{Cell}
-use Rattle.io_caps.specs.declared.limits.TheConstants.{CLIENTS}
+use Rattle.io_caps.specs.declared.limits.TheConstants.{CLIENTS, MOST_OUTPUTS}
 use Rattle.book_words.specs.declared.calls.JournalCall.{JournalCall}
 use Rattle.book_words.specs.declared.requests.Stamp.{Stamp}
 use Rattle.book_words.specs.History.{reply_item}
@@ -21,9 +21,9 @@ use Rattle.book_words.specs.declared.requests.Request.TheVariants.{Active as Ask
 use Rattle.book_words.specs.declared.requests.Request.TheVariants.{Pending as AskPending}
 use Rattle.book_words.specs.declared.replies.Refusal.TheVariants.{Empty, Unknown, BadChannel}
 use Rattle.book_words.specs.declared.replies.Refusal.TheVariants.{Locked, Row, Time, NotPending}
-use Rattle.book_words.specs.declared.replies.Refusal.TheVariants.{Full}
 use Rattle.book_words.specs.declared.history.Said.{Said}
 use Rattle.book_words.specs.declared.history.Said.TheVariants.{Plain, Http}
+use Rattle.book_words.specs.declared.replies.Activation.{Activation}
 use Rattle.book_words.specs.declared.replies.PendingItem.{PendingItem}
 use Rattle.book_words.specs.declared.replies.Reply.{Reply}
 use Rattle.book_words.specs.declared.replies.Reply.TheVariants.{Activated, Scheduled, Deleted}
@@ -36,16 +36,18 @@ use Rattle.exact_text.proofs.FormLengths.{choose_short, tagged_short}
 use Rattle.capture_file.specs.Tags.{now_op, at_op, after_op, delete_op, active_op, pending_op}
 use Rattle.capture_file.specs.Tags.{activated_code, scheduled_code, deleted_code, active_code}
 use Rattle.capture_file.specs.Tags.{pending_code, empty_code, unknown_code, bad_channel_code}
-use Rattle.capture_file.specs.Tags.{locked_code, row_code, time_code, not_pending_code, full_code}
-use Rattle.capture_file.specs.Requests.{cell, change, output_change, action, time, request, if_now}
-use Rattle.capture_file.specs.Requests.{if_at, if_after, if_delete}
+use Rattle.capture_file.specs.Tags.{locked_code, row_code, time_code, not_pending_code}
+use Rattle.capture_file.specs.Requests.{cell, change, output_change, action, time, moment, request}
+use Rattle.capture_file.specs.Requests.{if_now, if_at, if_after, if_delete}
 use Rattle.capture_file.specs.Replies.{when, if_at_time, if_after_time, shown, if_last, last}
 use Rattle.capture_file.specs.Replies.{if_activated, if_scheduled, if_deleted, if_active}
 use Rattle.capture_file.specs.Replies.{if_pending, if_unknown, if_bad_channel, if_locked, if_row}
 use Rattle.capture_file.specs.Replies.{if_not_pending, FitsWidth, rows, view, pending, row_fault}
-use Rattle.capture_file.specs.Replies.{refusal, reply as plain_reply, HoldsPending, HoldsReply}
+use Rattle.capture_file.specs.Replies.{refusal, reply as plain_reply, HoldsPending, HoldsLast}
+use Rattle.capture_file.specs.Replies.{HoldsReply}
 use Rattle.capture_file.specs.Parts.{HoldsSaid}
 use Rattle.capture_file.specs.Result.{call_made, call, said, reply, widths_of, FitsCall, FitsReply}
+use Rattle.capture_file.proofs.RequestLaws.{first_frame}
 
 cell_short : IsShort cell 2
 unfolding cell
@@ -68,6 +70,10 @@ time_short : IsShort time 12
 unfolding time
 time_short = checked_short _ _ (then_short (number_short 8) (number_short 4))
 
+moment_short : IsShort moment 8
+unfolding moment
+moment_short = checked_short _ _ (number_short 8)
+
 timed_short : IsShort (time ▸ action) 195598
 timed_short = then_short time_short action_short
 
@@ -87,10 +93,10 @@ request_short = tagged_short (λ op.
 pub call_short : (c : JournalCall) → FitsCall c → length (call.text c) < 2 ^ 32
 unfolding call
 call_short c fits =
-    let s = struct_short (λ c. (c.at, (c.client, (c.id, (c.tick, c.request))))) call_made
-    (then_short (number_short 8)
+    let s = struct_short (λ c. (c.at, (c.client, (c.id, ((c.tick, c.offset), c.request)))))
+    call_made (then_short (number_short 8)
     (then_short byte_short
-    (then_short (number_short 8) (then_short (number_short 8) request_short)))) in
+    (then_short (number_short 8) (then_short moment_short request_short)))) in
     let short = s.most c fits.fits in
     omega (arith, short)
 
@@ -107,7 +113,7 @@ when_short = tagged_short (λ op.
 shown_short : IsShort shown 29
 unfolding shown
 shown_short = struct_short _ _
-    (then_short (number_short 8) (then_short when_short (number_short 8)))
+    (then_short (number_short 8) (then_short when_short moment_short))
 
 last_short : IsShort last 30
 unfolding last
@@ -150,7 +156,7 @@ widths_few : (outputs : List Output) → AllByRecursion (λ o. AreChannels o.lab
 widths_few [] are = tt
 widths_few (o ∷ outputs) are = (omega (arith, are.0.1), widths_few outputs are.1)
 
-view_short : (d : DeviceParts) → IsDevice d → IsShort (view (widths_of d)) 4126
+view_short : (d : DeviceParts) → IsDevice d → IsShort (view (widths_of d)) (30 + MOST_OUTPUTS * 128)
 unfolding view rows
 view_short d is = record {
   most = λ v fits.
@@ -174,7 +180,7 @@ view_short d is = record {
 pending_short : IsShort pending 195615
 unfolding pending
 pending_short = struct_short _ _
-    (then_short (number_short 8) (then_short when_short (then_short (number_short 8) action_short)))
+    (then_short (number_short 8) (then_short when_short (then_short moment_short action_short)))
 
 row_fault_short : IsShort row_fault 2
 unfolding row_fault
@@ -198,23 +204,23 @@ refusal_short code =
     (shorter 8 (omega arith) (then_short byte_short row_fault_short))) (
     choose_short code time_code (constant_short (Refused Time)) (
     choose_short code not_pending_code
-    (variant_short (λ id. Refused (NotPending id)) if_not_pending (number_short 8)) (
-    choose_short code full_code (constant_short (Refused Full)) no_form_short)))))))
+    (variant_short (λ id. Refused (NotPending id)) if_not_pending (number_short 8))
+    no_form_short))))))
 
 -- at most 255 pending activations
 abbrev most : ℕ
 most = 49881826
 
-two_numbers : IsShort (number 8 ▸ number 8) most
-two_numbers = shorter most (omega arith) (then_short (number_short 8) (number_short 8))
+dated_short : IsShort (number 8 ▸ moment) most
+dated_short = shorter most (omega arith) (then_short (number_short 8) moment_short)
 
 plain_short : (d : DeviceParts) → IsDevice d → IsShort (plain_reply (widths_of d)) (1 + most)
 unfolding plain_reply
 plain_short d is = tagged_short (λ code.
     choose_short code activated_code
-    (variant_short (λ p. Activated p.0 p.1) if_activated two_numbers) (
+    (variant_short (λ p. Activated p.0 p.1.0 p.1.1) if_activated dated_short) (
     choose_short code scheduled_code
-    (variant_short (λ p. Scheduled p.0 p.1) if_scheduled two_numbers) (
+    (variant_short (λ p. Scheduled p.0 p.1.0 p.1.1) if_scheduled dated_short) (
     choose_short code deleted_code
     (variant_short (λ id. Deleted id) if_deleted (shorter most (omega arith) (number_short 8))) (
     choose_short code active_code
@@ -229,6 +235,9 @@ plain_short d is = tagged_short (λ code.
 pending_holds : (items : List PendingItem) → (counted pending).Fits items → HoldsPending items
 pending_holds items fits = (fits.0, All-from_recursion pending.Fits items fits.1.1)
 
+abbrev none : Option Activation
+none = None
+
 skip : {P A Q C : Type 0} → (A → ⊥) → (P × A) ⊎ (Q × C) → C
 skip never (inl h) = absurd (never h.1)
 skip never (inr h) = h.1
@@ -237,12 +246,24 @@ taken : {P A C : Type 0} → P → (P × A) ⊎ ((P → ⊥) × C) → A
 taken p (inl h) = h.1
 taken p (inr h) = absurd (h.0 p)
 
+not_none : (a : Activation) → none ≡ Some a → ⊥
+not_none a e = absurd cc
+
+last_holds : (a : Option Activation) → last.Fits a → HoldsLast a
+unfolding last shown
+last_holds None fits = tt
+last_holds (Some a) fits =
+    first_frame a.tick a.offset (taken refl (skip (not_none a) fits.1)).0.1.1
+
 holds_plain : (widths : List ℕ) (r : Reply) → (plain_reply widths).Fits r → HoldsReply r
-unfolding plain_reply
-holds_plain widths (Activated id tick) fits = tt
-holds_plain widths (Scheduled id tick) fits = tt
+unfolding plain_reply view
+holds_plain widths (Activated id tick offset) fits =
+    first_frame tick offset (taken refl fits.1).0.1
+holds_plain widths (Scheduled id tick offset) fits =
+    first_frame tick offset (taken refl (skip (λ f. f) fits.1)).0.1
 holds_plain widths (Deleted id) fits = tt
-holds_plain widths (Active v) fits = tt
+holds_plain widths (Active v) fits =
+    last_holds v.last (taken refl (skip (λ f. f) (skip (λ f. f) (skip (λ f. f) fits.1)))).0.0
 holds_plain widths (Refused refused) fits = tt
 holds_plain widths (Pending items) fits =
     pending_holds items (taken refl

@@ -10,6 +10,7 @@ pub mod WalkLaws
 pub mod OpeningLaws
 pub mod RunLaws
 pub mod Once
+pub mod Grains
 pub mod Whole
 pub mod Lengths
 pub mod ResultLaws

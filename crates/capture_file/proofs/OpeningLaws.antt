@@ -147,7 +147,10 @@ forms_same Json Json e = refl
 bases_same : (form : DeviceForm) (body : List ℕ) (a b : SetupParts) → IsBase form body a
     → IsBase form body b → a ≡ b
 bases_same Plain body a b h k =
-    base_once body a.device a.rows (spelled_reads device device_law body (a.device, a.rows) h.1) b k
+    sym (base_once body a.device a.rows
+    (spelled_reads device device_law body (a.device, a.rows) h.1.0) a h)
+    ∙ base_once body a.device a.rows
+    (spelled_reads device device_law body (a.device, a.rows) h.1.0) b k
 bases_same Json body a b h k = says_once body a b h.1 k.1
 
 devices_same : (r s : ℕ × List ℕ) (a b : SetupParts) → r ≡ s

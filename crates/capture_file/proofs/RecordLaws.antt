@@ -4,7 +4,8 @@ use Rattle.exact_text.specs.Readings.{whole_of}
 use Rattle.io_caps.specs.Device.{IsDevice}
 use Rattle.io_caps.specs.declared.device.DeviceParts.{DeviceParts}
 use Rattle.map_entry.specs.declared.cell.Cell.{Cell}
-use Rattle.map_entry.specs.Setup.{SetupParts, IsSetup, setup_of}
+use Rattle.map_entry.specs.declared.grain.Grain.{Grain}
+use Rattle.map_entry.specs.Setup.{SetupParts, IsSetup, setup_of, setup_with}
 use Rattle.exact_text.proofs.Exact.{IsBytes, some_is}
 use Rattle.exact_text.proofs.FieldLaws.{wide4}
 use Rattle.capture_file.specs.declared.items.Item.{Item}
@@ -57,17 +58,20 @@ pub base_once : (body : List ℕ) (parts : DeviceParts) (rows : List (List Cell)
     → IsBase Plain body setup → setup_of parts rows ≡ setup
 base_once body parts rows e setup h =
     let same = some_is (parts, rows) (setup.device, setup.rows) (sym e
-    ∙ spelled_reads device device_law body (setup.device, setup.rows) h.1) in
+    ∙ spelled_reads device device_law body (setup.device, setup.rows) h.1.0) in
     ap (λ (p : DeviceParts × List (List Cell)). setup_of p.0 p.1) same
+    ∙ ap (λ (g : Grain). setup_with setup.device setup.rows g) (sym h.1.1)
 
 pub base_found : (body : List ℕ) (parts : DeviceParts) (rows : List (List Cell)) → IsBytes body
     → whole_of device.read body ≡ Some (parts, rows) → IsSetup (setup_of parts rows)
     → IsBase Plain body (setup_of parts rows)
-base_found body parts rows are e is = (is, spelled device device_law body (parts, rows) are e)
+base_found body parts rows are e is =
+    (is, (spelled device device_law body (parts, rows) are e, refl))
 
 pub no_base : (body : List ℕ) → whole_of device.read body ≡ None → (setup : SetupParts)
     → IsBase Plain body setup → ⊥
-no_base body none setup h = none_spelled device device_law body none (setup.device, setup.rows) h.1
+no_base body none setup h =
+    none_spelled device device_law body none (setup.device, setup.rows) h.1.0
 
 pub base_refused : (body : List ℕ) (parts : DeviceParts) (rows : List (List Cell))
     → whole_of device.read body ≡ Some (parts, rows) → (IsSetup (setup_of parts rows) → ⊥)

@@ -11,7 +11,6 @@ use Rattle.map_entry.specs.declared.fault.RowFault.TheVariants.{Order}
 use Rattle.book_words.specs.declared.requests.When.TheVariants.{Now, At, After}
 use Rattle.book_words.specs.declared.replies.Refusal.TheVariants.{Empty, Unknown, BadChannel}
 use Rattle.book_words.specs.declared.replies.Refusal.TheVariants.{Locked, Row, Time, NotPending}
-use Rattle.book_words.specs.declared.replies.Refusal.TheVariants.{Full}
 use Rattle.book_words.specs.declared.replies.Reply.TheVariants.{Activated, Scheduled, Deleted}
 use Rattle.book_words.specs.declared.replies.Reply.TheVariants.{Active, Pending, Refused}
 use Rattle.exact_text.specs.Readings.{◌>>=◌, many_at}
@@ -24,8 +23,8 @@ use Rattle.exact_text.proofs.FormLaws.{counted_law}
 use Rattle.capture_file.specs.Tags.{now_op, at_op, after_op, activated_code, scheduled_code}
 use Rattle.capture_file.specs.Tags.{deleted_code, active_code, pending_code, empty_code}
 use Rattle.capture_file.specs.Tags.{unknown_code, bad_channel_code, locked_code, row_code}
-use Rattle.capture_file.specs.Tags.{time_code, not_pending_code, full_code, input_check}
-use Rattle.capture_file.specs.Tags.{channel_check, routable_check, block_check, order_check}
+use Rattle.capture_file.specs.Tags.{time_code, not_pending_code, input_check, channel_check}
+use Rattle.capture_file.specs.Tags.{routable_check, block_check, order_check}
 use Rattle.capture_file.specs.Requests.{cell}
 use Rattle.capture_file.specs.Replies.{when, when_op, if_at_time, if_after_time, activation_made}
 use Rattle.capture_file.specs.Replies.{shown, last_tag, if_last, last, rows_at, FitsWidth, rows}
@@ -33,7 +32,7 @@ use Rattle.capture_file.specs.Replies.{view, pending_made, pending, fault_bytes,
 use Rattle.capture_file.specs.Replies.{row_fault, code_of, if_activated, if_scheduled, if_deleted}
 use Rattle.capture_file.specs.Replies.{if_active, if_pending, if_unknown, if_bad_channel, if_locked}
 use Rattle.capture_file.specs.Replies.{if_row, if_not_pending, refusal, reply}
-use Rattle.capture_file.proofs.RequestLaws.{cell_law, action_law, time_law}
+use Rattle.capture_file.proofs.RequestLaws.{cell_law, action_law, time_law, moment_law}
 
 pub when_law : {Follows : List ℕ → Type 0} → Lawful Follows when
 unfolding when
@@ -47,7 +46,7 @@ when_law = tagged_law (λ op.
 pub shown_law : {Follows : List ℕ → Type 0} → Lawful Follows shown
 unfolding shown
 shown_law = struct_law _ activation_made
-    (then_law (number_law 8 wide8) (then_law when_law (number_law 8 wide8))) (λ p fits. refl)
+    (then_law (number_law 8 wide8) (then_law when_law moment_law)) (λ p fits. refl)
     (λ a fits. refl)
 
 pub last_law : {Follows : List ℕ → Type 0} → Lawful Follows last
@@ -111,7 +110,7 @@ view_law widths = struct_law _ _ (then_law last_law (rows_law widths)) (λ p fit
 pub pending_law : {Follows : List ℕ → Type 0} → Lawful Follows pending
 unfolding pending
 pending_law = struct_law _ pending_made
-    (then_law (number_law 8 wide8) (then_law when_law (then_law (number_law 8 wide8) action_law)))
+    (then_law (number_law 8 wide8) (then_law when_law (then_law moment_law action_law)))
     (λ p fits. refl) (λ p fits. refl)
 
 -- ---- refusals
@@ -158,19 +157,17 @@ refusal_law code =
     (then_law byte_law row_fault_law) (λ p. refl) (λ p. refl)) (
     choose_tagged (constant_tagged code_of time_code (Refused Time) refl) (
     choose_tagged (variant_tagged code_of not_pending_code (λ id. Refused (NotPending id))
-    if_not_pending (number_law 8 wide8) (λ p. refl) (λ p. refl)) (
-    choose_tagged (constant_tagged code_of full_code (Refused Full) refl)
-    (no_form_tagged code_of code))))))))
+    if_not_pending (number_law 8 wide8) (λ p. refl) (λ p. refl)) (no_form_tagged code_of code)))))))
 
 -- ---- replies
 
 pub reply_law : {Follows : List ℕ → Type 0} (widths : List ℕ) → Lawful Follows (reply widths)
 unfolding reply
 reply_law widths = tagged_law (λ code.
-    choose_tagged (variant_tagged code_of activated_code (λ p. Activated p.0 p.1) if_activated
-    (then_law (number_law 8 wide8) (number_law 8 wide8)) (λ p. refl) (λ p. refl)) (
-    choose_tagged (variant_tagged code_of scheduled_code (λ p. Scheduled p.0 p.1) if_scheduled
-    (then_law (number_law 8 wide8) (number_law 8 wide8)) (λ p. refl) (λ p. refl)) (
+    choose_tagged (variant_tagged code_of activated_code (λ p. Activated p.0 p.1.0 p.1.1)
+    if_activated (then_law (number_law 8 wide8) moment_law) (λ p. refl) (λ p. refl)) (
+    choose_tagged (variant_tagged code_of scheduled_code (λ p. Scheduled p.0 p.1.0 p.1.1)
+    if_scheduled (then_law (number_law 8 wide8) moment_law) (λ p. refl) (λ p. refl)) (
     choose_tagged (variant_tagged code_of deleted_code (λ id. Deleted id) if_deleted
     (number_law 8 wide8) (λ p. refl) (λ p. refl)) (
     choose_tagged (variant_tagged code_of active_code (λ v. Active v) if_active (view_law widths)

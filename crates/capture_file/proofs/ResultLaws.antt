@@ -12,7 +12,6 @@ use Rattle.book_words.specs.declared.history.Said.{Said}
 use Rattle.book_words.specs.declared.history.Said.TheVariants.{Plain, Http}
 use Rattle.book_words.specs.declared.replies.Refusal.TheVariants.{Empty, Unknown, BadChannel}
 use Rattle.book_words.specs.declared.replies.Refusal.TheVariants.{Locked, Row, Time, NotPending}
-use Rattle.book_words.specs.declared.replies.Refusal.TheVariants.{Full}
 use Rattle.book_words.specs.declared.replies.Reply.{Reply}
 use Rattle.book_words.specs.declared.replies.Reply.TheVariants.{Activated, Scheduled, Deleted}
 use Rattle.book_words.specs.declared.replies.Reply.TheVariants.{Active, Pending, Refused}
@@ -33,7 +32,7 @@ use Rattle.capture_file.specs.Result.{claim_made, claim, call_made, call, form_o
 use Rattle.capture_file.specs.Result.{if_http, said, reply_made, reply, result_tag, widths_of}
 use Rattle.capture_file.specs.Result.{result_body, result_item, bytes_of}
 use Rattle.capture_file.specs.Parts.{claim_bytes}
-use Rattle.capture_file.proofs.RequestLaws.{request_law}
+use Rattle.capture_file.proofs.RequestLaws.{moment_law, request_law}
 use Rattle.capture_file.proofs.ReplyLaws.{reply_law as plain_reply_law}
 use Rattle.capture_file.proofs.DeviceLaws.{flag_law}
 
@@ -55,7 +54,7 @@ call_law : Lawful Nothing call
 unfolding call
 call_law = struct_law _ call_made
     (then_law (number_law 8 wide8)
-    (then_law byte_law (then_law (number_law 8 wide8) (then_law (number_law 8 wide8) request_law))))
+    (then_law byte_law (then_law (number_law 8 wide8) (then_law moment_law request_law))))
     (λ p fits. refl) (λ c fits. refl)
 
 reply_law : (widths : List ℕ) → Lawful Nothing (reply widths)
@@ -80,8 +79,8 @@ result_law d t =
 pub plain_same : (widths : List ℕ) (r : Reply)
     → (plain_reply widths).text r ≡ (plain_reply []).text r
 unfolding plain_reply view rows
-plain_same widths (Activated id tick) = refl
-plain_same widths (Scheduled id tick) = refl
+plain_same widths (Activated id tick offset) = refl
+plain_same widths (Scheduled id tick offset) = refl
 plain_same widths (Deleted id) = refl
 plain_same widths (Active v) = refl
 plain_same widths (Pending items) = refl
@@ -92,7 +91,6 @@ plain_same widths (Refused (Locked output)) = refl
 plain_same widths (Refused (Row output fault)) = refl
 plain_same widths (Refused Time) = refl
 plain_same widths (Refused (NotPending id)) = refl
-plain_same widths (Refused Full) = refl
 
 said_same : (widths : List ℕ) (s : Said) → (said widths).text s ≡ (said []).text s
 unfolding said

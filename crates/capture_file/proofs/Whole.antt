@@ -16,8 +16,9 @@ use Rattle.map_entry.specs.Setup.{SetupParts}
 use Rattle.exact_text.specs.Spellings.{record_text}
 use Rattle.capture_file.specs.declared.items.Item.{Item}
 use Rattle.capture_file.specs.declared.items.Item.TheVariants.{Packet, Piece, Ask, Work}
-use Rattle.capture_file.specs.declared.before.Sort.{Sort}
-use Rattle.capture_file.specs.declared.before.Sort.TheVariants.{AnItem, AnEnd, AFault}
+use Rattle.capture_file.specs.declared.before.RecordKind.{RecordKind}
+use Rattle.capture_file.specs.declared.before.RecordKind.TheVariants.{ItemRecord, EndRecord}
+use Rattle.capture_file.specs.declared.before.RecordKind.TheVariants.{NoRecord}
 use Rattle.capture_file.specs.declared.fault.CaptureFault.{CaptureFault}
 use Rattle.capture_file.specs.declared.fault.CaptureKind.{CaptureKind}
 use Rattle.capture_file.specs.declared.fault.CaptureKind.TheVariants.{Cut, Tag, Order}
@@ -28,7 +29,7 @@ use Rattle.capture_file.specs.Walk.{IfFault, IsRecord, text_of, Leads, Front, Is
 use Rattle.capture_file.specs.Walk.{EndsAt}
 use Rattle.capture_file.specs.Capture.{CaptureParts, capture_of, capture_magic, Opens, AreItems}
 use Rattle.capture_file.specs.Capture.{IsCaptureText, IsCaptureAt, IsAnswer}
-use Rattle.capture_file.specs.Fault.{BeforeParts, before, sort_of, IsRead, IsEnded, IsLater, Judges}
+use Rattle.capture_file.specs.Fault.{FrontParts, before, sort_of, IsRead, IsEnded, IsLater, Judges}
 use Rattle.capture_file.specs.Fault.{StopsAt, FaultIs, IsRefusal}
 use Rattle.capture_file.proofs.RecordLaws.{item_law}
 use Rattle.capture_file.proofs.Once.{judges_once}
@@ -52,22 +53,22 @@ item_fits setup tag body x fits h =
     × ((length ((item_body n).text x) < 256 ^ 4) × (item_body n).Fits x)) (sym is)
     (fits.0, (subst (λ (z : List ℕ). length z < 256 ^ 4) h.1.1 fits.1, h.1.0))
 
-one_item : (sort : Sort) (b : BeforeParts) (tag : ℕ) (body : List ℕ) (next : BeforeParts)
+one_item : (sort : RecordKind) (b : FrontParts) (tag : ℕ) (body : List ℕ) (next : FrontParts)
     → IsLater sort b tag body (Ok (Next next))
     → (x : Item) × (IsRead b.setup tag body x × (next ≡ before b.setup (b.items ++ x ∷ [])))
-one_item (AFault kind) b tag body next h = absurd cc
-one_item AnItem b tag body next h = h
-one_item AnEnd b tag body next h = absurd h
+one_item (NoRecord kind) b tag body next h = absurd cc
+one_item ItemRecord b tag body next h = h
+one_item EndRecord b tag body next h = absurd h
 
 record Adds (setup : SetupParts) (items : List Item) (records : List (ℕ × List ℕ))
-    (end : BeforeParts) : Type 0 where
+    (end : FrontParts) : Type 0 where
   pub more : List Item
   pub is : end ≡ before setup (items ++ more)
   pub text : flat_map text_of records ≡ flat_map item.text more
   pub there : AllByRecursion (IsItemThere (length setup.device.inputs)) more
   pub fit : AllByRecursion item.Fits more
 
-adds : (setup : SetupParts) (items : List Item) (records : List (ℕ × List ℕ)) (end : BeforeParts)
+adds : (setup : SetupParts) (items : List Item) (records : List (ℕ × List ℕ)) (end : FrontParts)
     → Leads Judges (before setup items) records end → Adds setup items records end
 adds setup items [] end h =
     record {
@@ -82,7 +83,7 @@ adds setup items [] end h =
 adds setup items (r ∷ records) end h =
     let t = one_item (sort_of r.0) (before setup items) r.0 r.1 h.1.0 h.1.1.0 in
     let u = adds setup (items ++ t.0 ∷ []) records end
-    (subst (λ (b : BeforeParts). Leads Judges b records end) t.1.1 h.1.1.1) in
+    (subst (λ (b : FrontParts). Leads Judges b records end) t.1.1 h.1.1.1) in
     record {
       more = t.0 ∷ u.more;
       is = u.is ∙ ap (λ (l : List Item). before setup l) (append_assoc items (t.0 ∷ []) u.more);
@@ -94,7 +95,7 @@ adds setup items (r ∷ records) end h =
       fit = (item_fits setup r.0 r.1 t.0 h.0 t.1.0, u.fit);
     }
 
-added : (setup : SetupParts) (records : List (ℕ × List ℕ)) (end : BeforeParts)
+added : (setup : SetupParts) (records : List (ℕ × List ℕ)) (end : FrontParts)
     (a : Adds setup [] records end) → AreItems (length setup.device.inputs) a.more
 added setup records end a = record {
   there = All-from_recursion (IsItemThere (length setup.device.inputs)) a.more a.there;
@@ -114,7 +115,7 @@ records_text (x ∷ items) =
     ∙ ap (λ (z : List ℕ). item.text x ++ z) (records_text items)
     ∙ sym (flat_map-cons item.text x items)
 
-is_item : (x : Item) → sort_of (item_tag x) ≡ AnItem
+is_item : (x : Item) → sort_of (item_tag x) ≡ ItemRecord
 is_item (Packet input bytes) = refl
 is_item (Piece client bytes) = refl
 is_item (Ask client request) = refl
@@ -125,7 +126,7 @@ item_taken : (setup : SetupParts) (items : List Item) (x : Item)
     → IsLater (sort_of (item_tag x)) (before setup items) (item_tag x)
     ((item_body (item_tag x)).text x) (Ok (Next (before setup (items ++ x ∷ []))))
 item_taken setup items x there fits =
-    subst (λ (s : Sort). IsLater s (before setup items) (item_tag x)
+    subst (λ (s : RecordKind). IsLater s (before setup items) (item_tag x)
     ((item_body (item_tag x)).text x) (Ok (Next (before setup (items ++ x ∷ [])))))
     (sym (is_item x)) (x, ((there, (fits.1.1, refl)), refl))
 
@@ -161,19 +162,20 @@ items_front setup items behind good = record {
 
 -- ---- the last record
 
-ends : (a b c : Bool) → cond a (AFault Order) (cond b AnItem (cond c AnEnd (AFault Tag))) ≡ AnEnd
+ends : (a b c : Bool)
+    → cond a (NoRecord Order) (cond b ItemRecord (cond c EndRecord (NoRecord Tag))) ≡ EndRecord
     → c ≡ true
 ends true b c e = absurd cc
 ends false true c e = absurd cc
 ends false false true e = refl
 ends false false false e = absurd cc
 
-last_is : (sort : Sort) (b : BeforeParts) (tag : ℕ) (body : List ℕ) (c : CaptureParts)
-    → (sort ≡ AnEnd → tag ≡ end_tag) → IsLater sort b tag body (Ok (Last c))
+last_is : (sort : RecordKind) (b : FrontParts) (tag : ℕ) (body : List ℕ) (c : CaptureParts)
+    → (sort ≡ EndRecord → tag ≡ end_tag) → IsLater sort b tag body (Ok (Last c))
     → (tag ≡ end_tag) × IsEnded b body (Ok (Last c))
-last_is (AFault kind) b tag body c is h = absurd cc
-last_is AnItem b tag body c is h = absurd h
-last_is AnEnd b tag body c is h = (is refl, h)
+last_is (NoRecord kind) b tag body c is h = absurd cc
+last_is ItemRecord b tag body c is h = absurd h
+last_is EndRecord b tag body c is h = (is refl, h)
 
 -- ---- what the walk comes to
 
@@ -222,7 +224,7 @@ pub end_captures : (bytes : List ℕ) (setup : SetupParts) (behind : List ℕ) (
 end_captures bytes setup behind c at opens h =
     let a = adds setup [] h.front.records h.before h.front.leads in
     let judged : IsLater (sort_of h.last.0) (before setup a.more) h.last.0 h.last.1 (Ok (Last c)) =
-    subst (λ (b : BeforeParts). Judges b h.last.0 h.last.1 (Ok (Last c))) a.is h.judged in
+    subst (λ (b : FrontParts). Judges b h.last.0 h.last.1 (Ok (Last c))) a.is h.judged in
     let l = last_is (sort_of h.last.0) (before setup a.more) h.last.0 h.last.1 c
     (λ e. eqb-true h.last.0 end_tag (ends _ _ (eqb h.last.0 end_tag) e)) judged in
     let is : c ≡ capture_of setup a.more c.ticks = l.1.1.1.0 in
@@ -291,7 +293,7 @@ fault_stops bytes setup behind at kind opens h =
           ∙ ap (λ (z : List ℕ). z ++ h.behind) a.text) opens;
       good = added setup h.front.records h.before a;
       place = h.place;
-      faulty = subst (λ (b : BeforeParts). IsFaulty Judges Cut b h.behind kind) a.is h.faulty;
+      faulty = subst (λ (b : FrontParts). IsFaulty Judges Cut b h.behind kind) a.is h.faulty;
     }))
 
 -- where bytes stop, a walk finds a fault

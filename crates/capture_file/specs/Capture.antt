@@ -5,6 +5,7 @@ use Rattle.std.specs.List.{flat_map, sum_by}
 use Rattle.io_caps.specs.declared.limits.TheConstants.{CAPTURE_TICKS}
 use Rattle.io_caps.specs.declared.memory.Or.{Or}
 use Rattle.map_entry.specs.Setup.{SetupParts, IsSetup}
+use Rattle.map_entry.specs.declared.grain.Grain.TheVariants.{Tick}
 use Rattle.exact_text.specs.Forms.{IsSpelled}
 use Rattle.channel_json.specs.Devices.{Says}
 use Rattle.capture_file.specs.declared.fault.CaptureFault.{CaptureFault}
@@ -49,10 +50,11 @@ abbrev pub form_tag : DeviceForm → ℕ
 form_tag Plain = device_tag
 form_tag Json = json_device_tag
 
--- the body says this device with its base rows in a form: it spells them, or it is a JSON text that
--- says them
+-- The body says this device with its base rows in a form: it spells them, or it is a JSON text that
+-- says them. It says no grain, which is then the tick.
 abbrev pub SaysBase : DeviceForm → List ℕ → SetupParts → Type 0
-SaysBase Plain body setup = IsSpelled device body (setup.device, setup.rows)
+SaysBase Plain body setup =
+    IsSpelled device body (setup.device, setup.rows) × (setup.grain ≡ Tick)
 SaysBase Json body setup = Says body setup
 
 -- the body says this device with its base rows in a form, and they are in order

@@ -12,8 +12,9 @@ use Rattle.capture_file.specs.declared.fault.CaptureKind.TheVariants.{Device, Bo
 use Rattle.capture_file.specs.declared.items.Item.{Item}
 use Rattle.capture_file.specs.declared.before.DeviceForm.{DeviceForm}
 use Rattle.capture_file.specs.declared.before.DeviceForm.TheVariants.{Plain, Json}
-use Rattle.capture_file.specs.declared.before.Sort.{Sort}
-use Rattle.capture_file.specs.declared.before.Sort.TheVariants.{AnItem, AnEnd, AFault}
+use Rattle.capture_file.specs.declared.before.RecordKind.{RecordKind}
+use Rattle.capture_file.specs.declared.before.RecordKind.TheVariants.{ItemRecord, EndRecord}
+use Rattle.capture_file.specs.declared.before.RecordKind.TheVariants.{NoRecord}
 use Rattle.capture_file.specs.declared.walk.Step.{Step}
 use Rattle.capture_file.specs.declared.walk.Step.TheVariants.{Next, Last}
 use Rattle.capture_file.specs.Tags.{device_tag, json_device_tag, packet_tag, piece_tag, ask_tag}
@@ -49,26 +50,26 @@ IsFirst (Ok form) body judged = IsOpened form body judged
 -- ---- the others
 
 -- what a tag says after the device: a second device is `Order`, a tag that is not known `Tag`
-abbrev pub sort_of : ℕ → Sort
+abbrev pub sort_of : ℕ → RecordKind
 sort_of tag =
-    if tag == device_tag || tag == json_device_tag then AFault Order
+    if tag == device_tag || tag == json_device_tag then NoRecord Order
     else (if tag == packet_tag
-    || (tag == piece_tag || (tag == ask_tag || tag == work_tag)) then AnItem
-    else (if tag == end_tag then AnEnd
-    else AFault Tag))
+    || (tag == piece_tag || (tag == ask_tag || tag == work_tag)) then ItemRecord
+    else (if tag == end_tag then EndRecord
+    else NoRecord Tag))
 
 -- what stands before a record after the device: the device, and the records between
-pub record BeforeParts : Type 0 where
+pub record FrontParts : Type 0 where
   pub setup : SetupParts
   pub items : List Item
 
 -- a device and the records after it
-abbrev pub before : SetupParts → List Item → BeforeParts
+abbrev pub before : SetupParts → List Item → FrontParts
 before setup items = record { setup = setup; items = items }
 
 -- they name inputs and clients that are there
-abbrev pub IsBefore : BeforeParts → Type 0
-IsBefore b = All (IsItemThere (length b.setup.device.inputs)) b.items
+abbrev pub IsFront : FrontParts → Type 0
+IsFront b = All (IsItemThere (length b.setup.device.inputs)) b.items
 
 -- the body of a tag spells this record, which names what is there
 abbrev pub IsRead : SetupParts → ℕ → List ℕ → Item → Type 0
@@ -76,7 +77,7 @@ IsRead setup tag body item =
     IsItemThere (length setup.device.inputs) item × IsSpelled (item_body tag) body item
 
 -- a record is added to those before it, or has the fault `Body`, where its body spells none
-abbrev pub IsTaken : BeforeParts → ℕ → List ℕ → Result (Step BeforeParts CaptureParts) CaptureKind
+abbrev pub IsTaken : FrontParts → ℕ → List ℕ → Result (Step FrontParts CaptureParts) CaptureKind
     → Type 0
 IsTaken b tag body (Ok (Next next)) =
     (item : Item) × (IsRead b.setup tag body item × (next ≡ before b.setup (b.items ++ item ∷ [])))
@@ -85,7 +86,7 @@ IsTaken b tag body (Err kind) = (kind ≡ Body) × ((item : Item) → IsRead b.s
 
 -- the last record has no body, or the fault `Body`; the claims before it fill whole ticks, or it
 -- has the fault `Work`
-abbrev pub IsEnded : BeforeParts → List ℕ → Result (Step BeforeParts CaptureParts) CaptureKind
+abbrev pub IsEnded : FrontParts → List ℕ → Result (Step FrontParts CaptureParts) CaptureKind
     → Type 0
 IsEnded b body (Ok (Next next)) = ⊥
 IsEnded b body (Ok (Last c)) =
@@ -98,14 +99,14 @@ IsEnded b body (Err kind) =
     × ((ticks : ℕ) → AreTicks (length b.setup.device.outputs) b.items ticks → ⊥)))
 
 -- what a record of this sort does to what stands before it, or its fault
-abbrev pub IsLater : Sort → BeforeParts → ℕ → List ℕ
-    → Result (Step BeforeParts CaptureParts) CaptureKind → Type 0
-IsLater (AFault kind) b tag body judged = judged ≡ Err kind
-IsLater AnItem b tag body judged = IsTaken b tag body judged
-IsLater AnEnd b tag body judged = IsEnded b body judged
+abbrev pub IsLater : RecordKind → FrontParts → ℕ → List ℕ
+    → Result (Step FrontParts CaptureParts) CaptureKind → Type 0
+IsLater (NoRecord kind) b tag body judged = judged ≡ Err kind
+IsLater ItemRecord b tag body judged = IsTaken b tag body judged
+IsLater EndRecord b tag body judged = IsEnded b body judged
 
 -- what a record after the device does to what stands before it, or its fault
-abbrev pub Judges : BeforeParts → ℕ → List ℕ → Result (Step BeforeParts CaptureParts) CaptureKind
+abbrev pub Judges : FrontParts → ℕ → List ℕ → Result (Step FrontParts CaptureParts) CaptureKind
     → Type 0
 Judges b tag body judged = IsLater (sort_of tag) b tag body judged
 

@@ -1,5 +1,5 @@
 -- How replies stand in bytes. (This project's own.)
-use Rattle.std.specs.Prelude.{ℕ, ◌<◌, List, [], ◌∷◌, length, All, Option, Some, None, ◌==◌}
+use Rattle.std.specs.Prelude.{◌≡◌, ℕ, ◌<◌, List, [], ◌∷◌, length, All, Option, Some, None, ◌==◌}
 use Rattle.std.specs.Prelude.{if◌then◌else◌}
 use Rattle.std.specs.List.{AllZip, flat_map}
 use Rattle.tai_time.specs.Time.{TaiTime}
@@ -16,7 +16,6 @@ use Rattle.book_words.specs.declared.replies.PendingItem.{PendingItem}
 use Rattle.book_words.specs.declared.replies.Refusal.{Refusal}
 use Rattle.book_words.specs.declared.replies.Refusal.TheVariants.{Empty, Unknown, BadChannel}
 use Rattle.book_words.specs.declared.replies.Refusal.TheVariants.{Locked, Row, Time, NotPending}
-use Rattle.book_words.specs.declared.replies.Refusal.TheVariants.{Full}
 use Rattle.book_words.specs.declared.replies.Reply.{Reply}
 use Rattle.book_words.specs.declared.replies.Reply.TheVariants.{Activated, Scheduled, Deleted}
 use Rattle.book_words.specs.declared.replies.Reply.TheVariants.{Active, Pending, Refused}
@@ -27,9 +26,9 @@ use Rattle.exact_text.specs.Forms.{constant, no_form, choose, tagged, counted}
 use Rattle.capture_file.specs.Tags.{now_op, at_op, after_op, activated_code, scheduled_code}
 use Rattle.capture_file.specs.Tags.{deleted_code, active_code, pending_code, empty_code}
 use Rattle.capture_file.specs.Tags.{unknown_code, bad_channel_code, locked_code, row_code}
-use Rattle.capture_file.specs.Tags.{time_code, not_pending_code, full_code, input_check}
-use Rattle.capture_file.specs.Tags.{channel_check, routable_check, block_check, order_check}
-use Rattle.capture_file.specs.Requests.{cell, action, time}
+use Rattle.capture_file.specs.Tags.{time_code, not_pending_code, input_check, channel_check}
+use Rattle.capture_file.specs.Tags.{routable_check, block_check, order_check}
+use Rattle.capture_file.specs.Requests.{cell, action, time, moment}
 
 -- ---- when
 
@@ -59,12 +58,13 @@ when = tagged when_op (λ op.
 -- ---- the active map
 
 -- an activation by its fields
-abbrev pub activation_made : ℕ × (When × ℕ) → Activation
-activation_made (id, (w, tick)) = activation id w tick
+abbrev pub activation_made : ℕ × (When × (ℕ × ℕ)) → Activation
+activation_made (id, (w, (tick, offset))) = activation id w tick offset
 
--- id, when, tick
+-- id, when, moment
 unfoldable pub shown : Form Activation
-shown = struct (number 8 ▸ when ▸ number 8) (λ a. (a.id, (a.when, a.tick))) activation_made
+shown = struct (number 8 ▸ when ▸ moment) (λ a. (a.id, (a.when, (a.tick, a.offset))))
+    activation_made
 
 -- 1 where there is an activation, and 0 otherwise
 abbrev pub last_tag : Option Activation → ℕ
@@ -107,13 +107,13 @@ view widths = struct (last ▸ rows widths) (λ v. (v.last, v.rows)) (λ p. acti
 -- ---- the pending activations
 
 -- a pending activation by its fields
-abbrev pub pending_made : ℕ × (When × (ℕ × List OutputChangeParts)) → PendingItem
-pending_made (id, (w, (tick, a))) = pending_item id w tick a
+abbrev pub pending_made : ℕ × (When × ((ℕ × ℕ) × List OutputChangeParts)) → PendingItem
+pending_made (id, (w, ((tick, offset), a))) = pending_item id w tick offset a
 
--- id, when, tick, action
+-- id, when, moment, action
 unfoldable pub pending : Form PendingItem
-pending = struct (number 8 ▸ when ▸ number 8 ▸ action) (λ p. (p.id, (p.when, (p.tick, p.action))))
-    pending_made
+pending = struct (number 8 ▸ when ▸ moment ▸ action)
+    (λ p. (p.id, (p.when, ((p.tick, p.offset), p.action)))) pending_made
 
 -- ---- refusals
 
@@ -150,25 +150,24 @@ refusal_code (Locked output) = locked_code
 refusal_code (Row output fault) = row_code
 refusal_code Time = time_code
 refusal_code (NotPending id) = not_pending_code
-refusal_code Full = full_code
 
 -- the code of a reply
 abbrev pub code_of : Reply → ℕ
-code_of (Activated id tick) = activated_code
-code_of (Scheduled id tick) = scheduled_code
+code_of (Activated id tick offset) = activated_code
+code_of (Scheduled id tick offset) = scheduled_code
 code_of (Deleted id) = deleted_code
 code_of (Active v) = active_code
 code_of (Pending items) = pending_code
 code_of (Refused r) = refusal_code r
 
 -- what follows the code of an accepted activation at once
-abbrev pub if_activated : Reply → Option (ℕ × ℕ)
-if_activated (Activated id tick) = Some (id, tick)
+abbrev pub if_activated : Reply → Option (ℕ × (ℕ × ℕ))
+if_activated (Activated id tick offset) = Some (id, (tick, offset))
 if_activated other = None
 
 -- what follows that of an accepted scheduled activation
-abbrev pub if_scheduled : Reply → Option (ℕ × ℕ)
-if_scheduled (Scheduled id tick) = Some (id, tick)
+abbrev pub if_scheduled : Reply → Option (ℕ × (ℕ × ℕ))
+if_scheduled (Scheduled id tick offset) = Some (id, (tick, offset))
 if_scheduled other = None
 
 -- what follows that of a deletion
@@ -222,17 +221,16 @@ refusal code =
     choose code row_code (variant (byte ▸ row_fault) (λ p. Refused (Row p.0 p.1)) if_row) (
     choose code time_code (constant (Refused Time)) (
     choose code not_pending_code (variant (number 8) (λ id. Refused (NotPending id)) if_not_pending)
-    (
-    choose code full_code (constant (Refused Full)) no_form)))))))
+    no_form))))))
 
--- A code, and then: id and tick; an id; the active map, with a given number of channels of each
+-- A code, and then: id and moment; an id; the active map, with a given number of channels of each
 -- output; the number of pending activations and these; what a refusal names.
 unfoldable pub reply : List ℕ → Form Reply
 reply widths = tagged code_of (λ code.
-    choose code activated_code (variant (number 8 ▸ number 8) (λ p. Activated p.0 p.1) if_activated)
-    (
-    choose code scheduled_code (variant (number 8 ▸ number 8) (λ p. Scheduled p.0 p.1) if_scheduled)
-    (
+    choose code activated_code
+    (variant (number 8 ▸ moment) (λ p. Activated p.0 p.1.0 p.1.1) if_activated) (
+    choose code scheduled_code
+    (variant (number 8 ▸ moment) (λ p. Scheduled p.0 p.1.0 p.1.1) if_scheduled) (
     choose code deleted_code (variant (number 8) (λ id. Deleted id) if_deleted) (
     choose code active_code (variant (view widths) (λ v. Active v) if_active) (
     choose code pending_code (variant (counted pending) (λ items. Pending items) if_pending) (
@@ -244,11 +242,17 @@ reply widths = tagged code_of (λ code.
 abbrev pub HoldsPending : List PendingItem → Type 0
 HoldsPending items = (length items < 256) × All pending.Fits items
 
--- the pending activations of a reply fit their fields; others always do
+-- the activation that counted last counts from the first frame of a tick
+abbrev pub HoldsLast : Option Activation → Type 0
+HoldsLast None = Unit {0}
+HoldsLast (Some a) = a.offset ≡ 0
+
+-- the activations of a reply count from first frames of ticks, and the pending ones fit their
+-- fields; other replies can always be written
 abbrev pub HoldsReply : Reply → Type 0
-HoldsReply (Activated id tick) = Unit {0}
-HoldsReply (Scheduled id tick) = Unit {0}
+HoldsReply (Activated id tick offset) = offset ≡ 0
+HoldsReply (Scheduled id tick offset) = offset ≡ 0
 HoldsReply (Deleted id) = Unit {0}
-HoldsReply (Active v) = Unit {0}
+HoldsReply (Active v) = HoldsLast v.last
 HoldsReply (Pending items) = HoldsPending items
 HoldsReply (Refused r) = Unit {0}

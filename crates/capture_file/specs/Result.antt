@@ -23,7 +23,7 @@ use Rattle.capture_file.specs.declared.entries.ResultItem.TheVariants.{Claim, Ca
 use Rattle.capture_file.specs.Tags.{claim_tag, call_tag, reply_tag, http_form, plain_form}
 use Rattle.capture_file.specs.Device.{flag}
 use Rattle.capture_file.specs.Items.{end_text}
-use Rattle.capture_file.specs.Requests.{request}
+use Rattle.capture_file.specs.Requests.{moment, request}
 use Rattle.capture_file.specs.Replies.{reply as plain_reply}
 use Rattle.capture_file.specs.Records.{if_claim, if_call, if_reply, records_of}
 
@@ -41,13 +41,14 @@ claim inputs = struct (number 8 ▸ many_of inputs flag ▸ all_left)
 -- ---- calls
 
 -- a call by its fields
-abbrev pub call_made : ℕ × (ℕ × (ℕ × (ℕ × Request))) → JournalCall
-call_made (at, (client, (id, (tick, request)))) = journal_call at client id tick request
+abbrev pub call_made : ℕ × (ℕ × (ℕ × ((ℕ × ℕ) × Request))) → JournalCall
+call_made (at, (client, (id, ((tick, offset), request)))) =
+    journal_call at client id tick offset request
 
--- claims at acceptance, client, id, tick, request
+-- claims at acceptance, client, id, moment, request
 unfoldable pub call : Form JournalCall
-call = struct (number 8 ▸ byte ▸ number 8 ▸ number 8 ▸ request)
-    (λ c. (c.at, (c.client, (c.id, (c.tick, c.request))))) call_made
+call = struct (number 8 ▸ byte ▸ number 8 ▸ moment ▸ request)
+    (λ c. (c.at, (c.client, (c.id, ((c.tick, c.offset), c.request))))) call_made
 
 -- ---- replies
 

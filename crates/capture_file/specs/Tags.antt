@@ -149,10 +149,6 @@ time_code = 21
 abbrev pub not_pending_code : ℕ
 not_pending_code = 22
 
--- refused: no place is left
-abbrev pub full_code : ℕ
-full_code = 23
-
 -- the check of a row that failed: each input is there
 abbrev pub input_check : ℕ
 input_check = 1

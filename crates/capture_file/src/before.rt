@@ -10,19 +10,19 @@ use std::marker::Model;
 /// What stands before a record: the device, and the records after it, which name inputs and
 /// clients that are there.
 #[derive(Debug, Drop)]
-pub(crate) struct Before<'a> {
+pub(crate) struct CaptureFront<'a> {
     pub(crate) setup: Setup,
     pub(crate) items: Items<'a>,
 }
 
-impl<'a> Model for Before<'a> {
-    ghost use Rattle.capture_file.specs.Fault.{BeforeParts, before, IsBefore};
+impl<'a> Model for CaptureFront<'a> {
+    ghost use Rattle.capture_file.specs.Fault.{FrontParts, before, IsFront};
 
-    ghost Value = { BeforeParts };
+    ghost Value = { FrontParts };
 
     ghost view = { λ b. before b.setup b.items };
 
-    ghost invariant = { λ b. IsBefore (before b.setup b.items) };
+    ghost invariant = { λ b. IsFront (before b.setup b.items) };
 }
 
 /// How the body of a device record says the device.
@@ -34,10 +34,10 @@ pub enum DeviceForm {
 
 /// What a tag says after the device.
 #[derive(Clone, Copy, Debug, PartialEq, Eq)]
-pub enum Sort {
-    AnItem,
-    AnEnd,
-    AFault(CaptureKind),
+pub enum RecordKind {
+    ItemRecord,
+    EndRecord,
+    NoRecord(CaptureKind),
 }
 
 /// The form of a device that a tag says, or why it cannot be the tag of the first record.
@@ -53,13 +53,13 @@ pub(crate) fn device_form(tag: u8) -> Result<DeviceForm, CaptureKind>
 }
 
 /// What a tag says after the device.
-pub(crate) fn sort_of(tag: u8) -> Sort
+pub(crate) fn sort_of(tag: u8) -> RecordKind
     ensures { result ≡ sort_of tag }
 {
     match tag {
-        tags::DEVICE | tags::JSON_DEVICE => Sort::AFault(CaptureKind::Order),
-        tags::PACKET | tags::PIECE | tags::ASK | tags::WORK => Sort::AnItem,
-        tags::END => Sort::AnEnd,
-        _ => Sort::AFault(CaptureKind::Tag),
+        tags::DEVICE | tags::JSON_DEVICE => RecordKind::NoRecord(CaptureKind::Order),
+        tags::PACKET | tags::PIECE | tags::ASK | tags::WORK => RecordKind::ItemRecord,
+        tags::END => RecordKind::EndRecord,
+        _ => RecordKind::NoRecord(CaptureKind::Tag),
     }
 }

@@ -6,9 +6,9 @@ ghost use Rattle.capture_file.specs.Capture.{CaptureParts, IsAnswer, IsCaptureAt
 ghost use Rattle.capture_file.specs.Fault.{FaultIs, IsRefusal};
 ghost use Rattle.capture_file.specs.Walk.{IfFault};
 
-use crate::before::Before;
+use crate::before::CaptureFront;
 use crate::opening::read_opening;
-use crate::walk::{Placed, walk};
+use crate::walk::{RecordFault, walk};
 use crate::{CaptureFault, CaptureKind, Items};
 use io_caps::{NoMemory, Or, TryCopy};
 use map_entry::Setup;
@@ -46,7 +46,7 @@ impl<'a> TryCopy for Capture<'a> {
 }
 
 /// The fault that the walk found.
-fn placed(found: Placed<CaptureKind>) -> CaptureFault
+fn placed(found: RecordFault<CaptureKind>) -> CaptureFault
     ensures at { result.at ≡ found.at }
     ensures kind { result.kind ≡ found.fault }
 {
@@ -66,7 +66,7 @@ fn read_first<'a>(alloc: Global, bytes: &'a [u8]) -> Result<(Capture<'a>, usize)
         Err(error) => return Err(error),
     };
     let items = Items::new(alloc);
-    let start = Before { setup, items };
+    let start = CaptureFront { setup, items };
     match walk(alloc, start, CaptureKind::Cut, bytes.len(), behind) {
         Ok(whole) => Ok(whole),
         Err(Or::Fault(found)) => Err(Or::Fault(placed(found))),

@@ -8,7 +8,7 @@ ghost use Rattle.capture_file.specs.Capture.{AreTicks};
 ghost use Rattle.capture_file.specs.Fault.{before, sort_of, IsTaken, IsEnded, IsLater, Judges};
 ghost use Rattle.capture_file.specs.Walk.{IsJudged};
 
-use crate::before::{Before, Sort, sort_of};
+use crate::before::{CaptureFront, RecordKind, sort_of};
 use crate::requests::read_request;
 use crate::walk::{Judge, Step};
 use crate::{Capture, CaptureKind, Item, RecordBytes, tags};
@@ -100,9 +100,9 @@ fn ticks_of(outputs: u8, items: &[Item<'_>]) -> Option<u64>
     }
 }
 
-type Judged<'a> = Result<Step<Before<'a>, Capture<'a>>, Or<CaptureKind>>;
+type Judged<'a> = Result<Step<CaptureFront<'a>, Capture<'a>>, Or<CaptureKind>>;
 
-fn take_item<'a>(alloc: Global, before: Before<'a>, tag: u8, body: &'a [u8]) -> Judged<'a>
+fn take_item<'a>(alloc: Global, before: CaptureFront<'a>, tag: u8, body: &'a [u8]) -> Judged<'a>
     ensures { IsJudged (IsTaken before.entry tag body.now) result }
 {
     let item = match read_item(alloc, tag, body) {
@@ -110,18 +110,18 @@ fn take_item<'a>(alloc: Global, before: Before<'a>, tag: u8, body: &'a [u8]) -> 
         Err(Misread::NoReading) => return Err(Or::Fault(CaptureKind::Body)),
         Err(Misread::NoMemory) => return Err(Or::NoMemory),
     };
-    let Before { setup, mut items } = before;
+    let CaptureFront { setup, mut items } = before;
     if !is_item_there(&setup, &item) {
         return Err(Or::Fault(CaptureKind::Body));
     }
     items.push(item)?;
-    Ok(Step::Next(Before { setup, items }))
+    Ok(Step::Next(CaptureFront { setup, items }))
 }
 
-fn take_end<'a>(before: Before<'a>, body: &[u8]) -> Judged<'a>
+fn take_end<'a>(before: CaptureFront<'a>, body: &[u8]) -> Judged<'a>
     ensures { IsJudged (IsEnded before.entry body.now) result }
 {
-    let Before { setup, items } = before;
+    let CaptureFront { setup, items } = before;
     if !body.is_empty() {
         return Err(Or::Fault(CaptureKind::Body));
     }
@@ -135,17 +135,17 @@ fn take_end<'a>(before: Before<'a>, body: &[u8]) -> Judged<'a>
     }
 }
 
-fn take_later<'a>(alloc: Global, before: Before<'a>, tag: u8, body: &'a [u8]) -> Judged<'a>
+fn take_later<'a>(alloc: Global, before: CaptureFront<'a>, tag: u8, body: &'a [u8]) -> Judged<'a>
     ensures { IsJudged (IsLater (sort_of tag) before.entry tag body.now) result }
 {
     match sort_of(tag) {
-        Sort::AnItem => take_item(alloc, before, tag, body),
-        Sort::AnEnd => take_end(before, body),
-        Sort::AFault(kind) => Err(Or::Fault(kind)),
+        RecordKind::ItemRecord => take_item(alloc, before, tag, body),
+        RecordKind::EndRecord => take_end(before, body),
+        RecordKind::NoRecord(kind) => Err(Or::Fault(kind)),
     }
 }
 
-impl<'a> Judge<'a, Capture<'a>, CaptureKind> for Before<'a> {
+impl<'a> Judge<'a, Capture<'a>, CaptureKind> for CaptureFront<'a> {
     ghost judges = { Judges };
 
     fn judge(self, alloc: Global, tag: u8, body: &'a [u8]) -> Judged<'a> {

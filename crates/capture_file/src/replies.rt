@@ -9,7 +9,7 @@ ghost use Rattle.capture_file.specs.Replies.{when, shown, last, view, pending, r
 ghost use Rattle.capture_file.specs.Replies.{HoldsReply, HoldsPending};
 ghost use Rattle.exact_text.specs.Forms.{counted};
 
-use crate::writing::{push_action, push_cell, push_time, put64};
+use crate::writing::{push_action, push_cell, push_moment, push_time, put64};
 use crate::{Activation, ActiveView, PendingItem, Refusal, Reply, When, tags};
 use io_caps::NoMemory;
 use map_entry::{Cell, Row, RowFault};
@@ -44,7 +44,7 @@ fn push_shown(out: &mut Vec<u8>, value: &Activation) -> Result<(), NoMemory>
 {
     put64(out, value.id)?;
     push_when(out, value.when)?;
-    put64(out, value.tick)?;
+    push_moment(out, value.tick, value.offset)?;
     Ok(())
 }
 
@@ -107,7 +107,7 @@ fn push_pending_item(out: &mut Vec<u8>, value: &PendingItem) -> Result<(), NoMem
 {
     put64(out, value.id)?;
     push_when(out, value.when)?;
-    put64(out, value.tick)?;
+    push_moment(out, value.tick, value.offset)?;
     push_action(out, &value.action)?;
     Ok(())
 }
@@ -172,7 +172,6 @@ pub(crate) fn push_refusal(out: &mut Vec<u8>, value: Refusal) -> Result<(), NoMe
             out.push(tags::NOT_PENDING)?;
             put64(out, id)?;
         }
-        Refusal::Full => out.push(tags::FULL)?,
     }
     Ok(())
 }
@@ -185,16 +184,16 @@ pub(crate) fn push_plain_reply(out: &mut Vec<u8>, value: &Reply) -> Result<(), N
     ensures grows { Grows out.old.items out.new.items }
 {
     match value {
-        Reply::Activated { id, tick } => {
+        Reply::Activated { id, tick, offset } => {
             out.push(tags::ACTIVATED)?;
             put64(out, *id)?;
-            put64(out, *tick)?;
+            push_moment(out, *tick, *offset)?;
             Ok(())
         }
-        Reply::Scheduled { id, tick } => {
+        Reply::Scheduled { id, tick, offset } => {
             out.push(tags::SCHEDULED)?;
             put64(out, *id)?;
-            put64(out, *tick)?;
+            push_moment(out, *tick, *offset)?;
             Ok(())
         }
         Reply::Deleted { id } => {

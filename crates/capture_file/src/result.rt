@@ -13,7 +13,7 @@ ghost use Rattle.capture_file.specs.Parts.{AreHeld, AreLeft, IsHeld, IsLeft};
 
 use crate::replies::push_plain_reply;
 use crate::runs::split_run;
-use crate::writing::{push_request, put64};
+use crate::writing::{push_moment, push_request, put64};
 use crate::{ClaimItem, History, JournalCall, ReplyItem, Said, tags};
 use exact_text::{push_record, push32};
 use io_caps::{Device, NoMemory};
@@ -61,7 +61,7 @@ fn call_body(alloc: Global, value: &JournalCall) -> Result<Vec<u8>, NoMemory>
     put64(&mut body, value.at)?;
     body.push(value.client)?;
     put64(&mut body, value.id)?;
-    put64(&mut body, value.tick)?;
+    push_moment(&mut body, value.tick, value.offset)?;
     push_request(&mut body, &value.request)?;
     Ok(body)
 }

@@ -181,11 +181,6 @@ pub const NOT_PENDING: u8 = 0x16;
 
 const _: () = prove!(NOT_PENDING == 22);
 
-/// The code of the refusal of an activation for which no place is left.
-pub const FULL: u8 = 0x17;
-
-const _: () = prove!(FULL == 23);
-
 /// The check of a row: each input is there.
 pub const INPUT_CHECK: u8 = 1;
 

@@ -270,7 +270,7 @@ const LATER: [(&str, u64, CaptureKind); 32] = [
     ("45 00000001 00", 0, Body),
     // Claims of no whole tick, and of too many ticks.
     ("54 00000004 00000001 45 00000000", 9, Work),
-    ("54 00000004 00000202 45 00000000", 9, Work),
+    ("54 00000004 00002002 45 00000000", 9, Work),
     (
         "54 00000004 ffffffff 54 00000004 ffffffff 45 00000000",
         18,
@@ -461,7 +461,7 @@ fn read(alloc: Global, records: &str) -> Result<(u64, usize), Fail> {
 fn captures_read(rt: HostRuntime) -> Result<(), Fail> {
     assert!(rt; read(rt.alloc(), "45 00000000")? == (0, 70));
     assert!(rt; read(rt.alloc(), MID_TICK)? == (3, 132));
-    assert!(rt; read(rt.alloc(), "54 00000004 00000200 45 00000000")? == (256, 79));
+    assert!(rt; read(rt.alloc(), "54 00000004 00002000 45 00000000")? == (4096, 79));
     // What follows the last record is not looked at.
     assert!(rt; read(rt.alloc(), "45 00000000 78")? == (0, 70));
     Ok(())
@@ -483,7 +483,7 @@ fn parts_copied(rt: HostRuntime) -> Result<(), Fail> {
     Ok(())
 }
 
-const REFUSALS: [(Refusal, &str); 12] = [
+const REFUSALS: [(Refusal, &str); 11] = [
     (Refusal::Empty, "10"),
     (Refusal::Unknown { output: 2 }, "11 02"),
     (
@@ -531,7 +531,6 @@ const REFUSALS: [(Refusal, &str); 12] = [
     ),
     (Refusal::Time, "15"),
     (Refusal::NotPending { id: 258 }, "16 0000000000000102"),
-    (Refusal::Full, "17"),
 ];
 
 #[test]
@@ -547,8 +546,18 @@ fn refusals_written(rt: HostRuntime) -> Result<(), Fail> {
 #[test]
 fn accepted_written(rt: HostRuntime) -> Result<(), Fail> {
     let mut out = Vec::new(rt.alloc());
-    push_plain_reply(&mut out, &Reply::Activated { id: 1, tick: 2 })?;
-    push_plain_reply(&mut out, &Reply::Scheduled { id: 3, tick: 4 })?;
+    let activated = Reply::Activated {
+        id: 1,
+        tick: 2,
+        offset: 0,
+    };
+    push_plain_reply(&mut out, &activated)?;
+    let scheduled = Reply::Scheduled {
+        id: 3,
+        tick: 4,
+        offset: 0,
+    };
+    push_plain_reply(&mut out, &scheduled)?;
     push_plain_reply(&mut out, &Reply::Deleted { id: 5 })?;
     let digits = "00 0000000000000001 0000000000000002 01 0000000000000003 0000000000000004
         02 0000000000000005";
@@ -589,7 +598,12 @@ fn active_written(rt: HostRuntime) -> Result<(), Fail> {
     let mut rows = Rows::new(rt.alloc());
     rows.push(row(rt.alloc())?)?;
     let when = When::At(Tai { secs: 7, nanos: 8 });
-    let last = Some(Activation::new(6, when, 9));
+    let last = Some(Activation {
+        id: 6,
+        when,
+        tick: 9,
+        offset: 0,
+    });
     let mut out = Vec::new(rt.alloc());
     push_plain_reply(&mut out, &Reply::Active(ActiveView { last, rows }))?;
     let digits = "03 01 0000000000000006 01 0000000000000007 00000008 0000000000000009 ff00 0102";
@@ -622,9 +636,9 @@ fn three_claims(alloc: Global) -> Result<History, NoMemory>
     ensures { (d : DeviceParts) → IsDevice d → length d.inputs ≡ 1 → IfOk result (FitsHistory d) }
 {
     let mut journal = Journal::new(alloc);
-    journal.push(JournalCall::new(0, 2, 1, 5, Request::Active))?;
-    journal.push(JournalCall::new(0, 3, 2, 6, Request::Pending))?;
-    journal.push(JournalCall::new(2, 2, 3, 7, Request::Active))?;
+    journal.push(JournalCall::new(0, 2, 1, 5, 0, Request::Active))?;
+    journal.push(JournalCall::new(0, 3, 2, 6, 0, Request::Pending))?;
+    journal.push(JournalCall::new(2, 2, 3, 7, 0, Request::Active))?;
     let mut replies = ReplyItems::new(alloc);
     replies.push(response(
         alloc,

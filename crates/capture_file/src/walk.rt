@@ -19,7 +19,7 @@ pub enum Step<S, E> {
 
 /// A fault, by the place of its record.
 #[derive(Clone, Copy, Debug, PartialEq, Eq)]
-pub struct Placed<F> {
+pub struct RecordFault<F> {
     pub at: usize,
     pub fault: F,
 }
@@ -43,7 +43,7 @@ pub fn walk<'a, S: Judge<'a, E, F>, E: Drop, F: Drop>(
     cut: F,
     whole: usize,
     bytes: &'a [u8],
-) -> Result<(E, usize), Or<Placed<F>>>
+) -> Result<(E, usize), Or<RecordFault<F>>>
     requires { length bytes.now ≤ whole }
     ensures end { IfOk result (λ x. EndsAt S.judges start whole bytes.now x.0 x.1) }
     ensures fault { IfErr result (λ e. IfFault e
@@ -55,7 +55,7 @@ pub fn walk<'a, S: Judge<'a, E, F>, E: Drop, F: Drop>(
         let at = whole - rest.len();
         let (tag, body, after) = match record(rest) {
             Ok(found) => found,
-            Err(_) => return Err(Or::Fault(Placed { at, fault: cut })),
+            Err(_) => return Err(Or::Fault(RecordFault { at, fault: cut })),
         };
         match state.judge(alloc, tag, body) {
             Ok(Step::Next(next)) => {
@@ -63,7 +63,7 @@ pub fn walk<'a, S: Judge<'a, E, F>, E: Drop, F: Drop>(
                 rest = after;
             }
             Ok(Step::Last(last)) => return Ok((last, whole - after.len())),
-            Err(Or::Fault(fault)) => return Err(Or::Fault(Placed { at, fault })),
+            Err(Or::Fault(fault)) => return Err(Or::Fault(RecordFault { at, fault })),
             Err(Or::NoMemory) => return Err(Or::NoMemory),
         }
     }

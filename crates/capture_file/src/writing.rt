@@ -4,7 +4,8 @@ ghost use Rattle.std.specs.Prelude.{◌≡◌, ◌++◌, OnOk};
 ghost use Rattle.std.specs.List.{flat_map};
 ghost use Rattle.exact_text.specs.Forms.{number_text};
 ghost use Rattle.exact_text.specs.Spellings.{Grows};
-ghost use Rattle.capture_file.specs.Requests.{cell, change, output_change, action, time, request};
+ghost use Rattle.capture_file.specs.Requests.{cell, change, output_change, action, time, moment};
+ghost use Rattle.capture_file.specs.Requests.{request};
 
 use crate::{Request, When, tags};
 use exact_text::{push32, push64};
@@ -98,6 +99,16 @@ pub(crate) fn push_time(out: &mut Vec<u8>, value: Tai) -> Result<(), NoMemory>
 {
     put64(out, value.secs)?;
     put32(out, value.nanos)?;
+    Ok(())
+}
+
+/// Writes a tick, and the frame of it from which something counts, for which there is no field.
+#[tactic(auto, using(crate::proofs::Steps::put), unfolding(crate::specs::Requests::moment))]
+pub(crate) fn push_moment(out: &mut Vec<u8>, tick: u64, _offset: u16) -> Result<(), NoMemory>
+    ensures ok { OnOk result (out.new.items ≡ out.old.items ++ moment.text (tick, _offset)) }
+    ensures grows { Grows out.old.items out.new.items }
+{
+    put64(out, tick)?;
     Ok(())
 }
 

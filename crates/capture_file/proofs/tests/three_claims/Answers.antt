@@ -20,6 +20,7 @@ use Rattle.capture_file.specs.Device.{flag}
 use Rattle.capture_file.specs.Requests.{request}
 use Rattle.capture_file.specs.Result.{call, claim, reply, said}
 use Rattle.capture_file.specs.Result.{FitsCall, FitsClaim, FitsHistory, FitsReply}
+use Rattle.capture_file.proofs.RequestLaws.{moment_fits}
 use Rattle.capture_file.proofs.ResultLaws.{claim_same, length-claim}
 use Rattle.capture_file.proofs.tests.three_claims.Goals as goal
 
@@ -56,10 +57,16 @@ pending_fits = (
 )
 
 call_fits : (at client id tick : ℕ) (r : Request) → at + id + tick < 256 → client < 16
-    → request.Fits r → FitsCall (journal_call at client id tick r)
+    → request.Fits r → FitsCall (journal_call at client id tick 0 r)
 unfolding call
 call_fits at client id tick r few c fits = record {
-  fits = (omega (arith, few), (omega (arith, c), (omega (arith, few), (omega (arith, few), fits))));
+  fits = (
+    omega (arith, few),
+    (
+      omega (arith, c),
+      (omega (arith, few), (moment_fits tick 0 (omega (arith, few)) refl, fits)),
+    ),
+  );
   client = c;
 }
 
@@ -109,8 +116,8 @@ claims = claim_item 0 (true ∷ []) (17 ∷ []) ∷ claim_item 1 (false ∷ []) 
     ∷ claim_item 2 (true ∷ []) (19 ∷ []) ∷ []
 
 abbrev calls : List JournalCall
-calls = journal_call 0 2 1 5 Active ∷ journal_call 0 3 2 6 Pending
-    ∷ journal_call 2 2 3 7 Active ∷ []
+calls = journal_call 0 2 1 5 0 Active ∷ journal_call 0 3 2 6 0 Pending
+    ∷ journal_call 2 2 3 7 0 Active ∷ []
 
 abbrev replies : List ReplyItem
 replies = reply_item 2 (stamp 1 0) (Http (33 ∷ [])) ∷ reply_item 3 (stamp 2 1) (Http (34 ∷ []))
@@ -119,9 +126,9 @@ replies = reply_item 2 (stamp 1 0) (Http (33 ∷ [])) ∷ reply_item 3 (stamp 2 
 in_order : AllPairs (λ a b. a.at ≤ b.at) calls
 in_order =
     let R = λ (a b : JournalCall). a.at ≤ b.at in
-    let first = journal_call 0 2 1 5 Active in
-    let second = journal_call 0 3 2 6 Pending in
-    let third = journal_call 2 2 3 7 Active in
+    let first = journal_call 0 2 1 5 0 Active in
+    let second = journal_call 0 3 2 6 0 Pending in
+    let third = journal_call 2 2 3 7 0 Active in
     AllPairs-cons R first (second ∷ third ∷ [])
     (All-from_recursion (R first) (second ∷ third ∷ []) (omega arith, (omega arith, tt)))
     (AllPairs-cons R second (third ∷ [])
