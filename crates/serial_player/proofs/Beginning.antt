@@ -1,5 +1,5 @@
 -- A legal history keeps ticks that have begun: calls that were accepted later change nothing there.
-use Rattle.std.proofs.Common.{◌≡◌, ℕ, suc, ◌<◌, ◌≤◌, ◌&&◌, Bool, true, false, not, List, [], ◌∷◌}
+use Rattle.std.proofs.Common.{◌≡◌, ℕ, suc, ◌^◌, ◌<◌, ◌≤◌, ◌&&◌, Bool, true, false, not, List, [], ◌∷◌}
 use Rattle.std.proofs.Common.{◌++◌, length, get_or, Option, inl, inr, refl, sym, ap, subst, ◌∙◌}
 use Rattle.std.proofs.Common.{arith}
 use Rattle.std.specs.Prelude.{All, filter, nat_lt}
@@ -10,6 +10,8 @@ use Rattle.std.proofs.lemmas.List.{get_or_past}
 use Rattle.std.proofs.lemmas.List.Elements.{All-cons, recursion_from_All, All-from_recursion}
 use Rattle.std.proofs.lemmas.Option.{slice_get-get_or}
 use Rattle.map_entry.specs.Entry.{selected}
+use Rattle.map_entry.specs.Tick.{frame_key}
+use Rattle.plain_book.proofs.Grains.{few_frames}
 use Rattle.map_entry.specs.Setup.{IsSetup, SetupParts}
 use Rattle.map_entry.specs.declared.cell.Cell.{Cell}
 use Rattle.capture_file.specs.Capture.{CaptureParts}
@@ -67,20 +69,22 @@ split m (call ∷ calls) up = elim (cases_lt m call.at) [
       }
 ]
 
--- a claim's row is by the calls before its tick began
-row_by_begin : (s : SetupParts) (m : ℕ) (journal : List JournalCall) (k : ℕ) → IsSetup s
-    → IsLegalJournal s m journal
-    → selected (entries_of s journal) (output_of_claim s k) (tick_of_claim s k)
-    ≡ selected (entries_of s (calls_by_begin s journal k)) (output_of_claim s k) (tick_of_claim s k)
-row_by_begin s m journal k is legal =
+-- a claim's rows are by the calls before its tick began
+row_by_begin : (s : SetupParts) (m : ℕ) (journal : List JournalCall) (k frame : ℕ) → IsSetup s
+    → IsLegalJournal s m journal → frame < 2 ^ 16
+    → claim_rows s (entries_of s journal) k frame
+    ≡ claim_rows s (entries_of s (calls_by_begin s journal k)) k frame
+row_by_begin s m journal k frame is legal few =
     let first = first_of_tick (length s.device.outputs) k in
     let halves = split first journal legal.rises in
+    let o = output_of_claim s k in
+    let key = frame_key (tick_of_claim s k) frame in
     let whole : IsLegalJournal s m (calls_by_begin s journal k ++ halves.behind) =
     subst (IsLegalJournal s m) halves.parts legal in
-    ap (λ (j : List JournalCall). selected (entries_of s j) (output_of_claim s k)
-    (tick_of_claim s k)) halves.parts
-    ∙ selected_stays s m (calls_by_begin s journal k) halves.behind k is whole
-    (All-from_recursion (λ (c : JournalCall). first < c.at) halves.behind halves.late)
+    ap (λ (row : Option (List Cell)). unwrap_or row [])
+    (ap (λ (j : List JournalCall). selected (entries_of s j) o key) halves.parts
+    ∙ selected_stays s m (calls_by_begin s journal k) halves.behind k frame is whole
+    (All-from_recursion (λ (c : JournalCall). first < c.at) halves.behind halves.late) few)
 
 -- ---- claims
 
@@ -98,8 +102,7 @@ claim_by_begin s m journal blocks Allows k claim is legal only claimed =
     let before = calls_by_begin s journal k in
     let rows : AreRows s.device.rate.frames (claim_rows s (entries_of s journal) k)
     (claim_rows s (entries_of s before) k) =
-    λ frame lt. ap (λ (row : Option (List Cell)). unwrap_or row [])
-    (row_by_begin s m journal k is legal) in
+    λ frame lt. row_by_begin s m journal k frame is legal (omega (arith, lt, few_frames s is)) in
     let packet = claimed.packet
     ∙ packet_by-same s (entries_of s journal) (entries_of s before) blocks blocks claim.found
     claim.found k rows (λ input named. refl) (λ input named set. refl) in

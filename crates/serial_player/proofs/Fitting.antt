@@ -1,5 +1,5 @@
 -- What the book replies fits the fields of a result.
-use Rattle.std.proofs.Common.{◌≡◌, ℕ, zero, suc, ◌+◌, ◌^◌, ◌<◌, ◌≤◌, Bool, true, false, eqb, List}
+use Rattle.std.proofs.Common.{◌≡◌, ℕ, zero, suc, ◌+◌, ◌^◌, ◌<◌, Bool, false, eqb, List}
 use Rattle.std.proofs.Common.{[], ◌∷◌, length, map, Option, Some, None, inl, inr, refl, ap, subst}
 use Rattle.std.proofs.Common.{◌∙◌, arith}
 use Rattle.std.specs.Prelude.{IfSome, filter, nat_lt, slice_get, option_map}
@@ -17,7 +17,7 @@ use Rattle.map_entry.specs.Row.{IsChannelThere, IsRowOf, channels_of}
 use Rattle.map_entry.specs.declared.cell.Cell.{Cell}
 use Rattle.map_entry.specs.declared.cell.Cell.TheVariants.{Unrouted, From}
 use Rattle.map_entry.proofs.Channels.{passed_there}
-use Rattle.book_words.specs.Calls.{action_of, when_of}
+use Rattle.book_words.specs.Calls.{action_of, call_due, when_of}
 use Rattle.plain_book.specs.Pending.{later, latest}
 use Rattle.book_words.specs.Replies.{item_of, shown as shown_call}
 use Rattle.book_words.specs.declared.calls.JournalCall.{JournalCall}
@@ -31,6 +31,7 @@ use Rattle.exact_text.specs.Forms.{counted}
 use Rattle.capture_file.specs.Requests.{action, cell, request}
 use Rattle.capture_file.specs.Replies.{FitsWidth, last, pending, rows, shown, when}
 use Rattle.capture_file.specs.Result.{widths_of}
+use Rattle.capture_file.proofs.RequestLaws.{moment_fits}
 
 -- ---- requests
 
@@ -74,11 +75,18 @@ asked_parts AskPending fits = (now_fits, nothing_fits)
 pub record IsFitCall (call : JournalCall) : Type 0 where
   pub id : call.id < 256 ^ 8
   pub tick : call.tick < 256 ^ 8
+  pub first : call.offset ≡ 0
   pub asks : request.Fits call.request
 
 shown_fits : (call : JournalCall) → IsFitCall call → shown.Fits (shown_call call)
 unfolding shown
-shown_fits call is = (is.id, ((asked_parts call.request is.asks).0, is.tick))
+shown_fits call is = (
+  is.id,
+  (
+    (asked_parts call.request is.asks).0,
+    moment_fits call.tick call.offset is.tick is.first,
+  ),
+)
 
 last_fits : (o : Option JournalCall) → IfSome o IsFitCall → last.Fits (option_map shown_call o)
 unfolding last
@@ -89,7 +97,7 @@ last_fits (Some call) is =
 item_fits : (call : JournalCall) → IsFitCall call → pending.Fits (item_of call)
 unfolding pending
 item_fits call is = let parts = asked_parts call.request is.asks in
-    (is.id, (parts.0, (is.tick, parts.1)))
+    (is.id, (parts.0, (moment_fits call.tick call.offset is.tick is.first, parts.1)))
 
 -- ---- what is chosen of calls
 
@@ -101,25 +109,14 @@ filter_keeps P p (x ∷ xs) all = elim (cases_Bool (p x)) [
   | inr miss ↦ rw miss (filter_keeps P p xs all.1)
 ]
 
-pub filter_less : {X : Type 0} (p q : X → Bool) → ((x : X) → p x ≡ true → q x ≡ true)
-    → (xs : List X) → length (filter p xs) ≤ length (filter q xs)
-filter_less p q stronger [] = omega arith
-filter_less p q stronger (x ∷ xs) = let rest = filter_less p q stronger xs in
-    elim (cases_Bool (p x)) [
-      | inl hit ↦ rw (hit, stronger x hit) (omega (arith, rest))
-      | inr miss ↦ elim (cases_Bool (q x)) [
-        | inl more ↦ rw (miss, more) (omega (arith, rest))
-        | inr none ↦ rw (miss, none) rest
-      ]
-    ]
-
 later_keeps : (P : JournalCall → Type 0) (call : JournalCall) (o : Option JournalCall) → P call
     → IfSome o P → P (later call o)
 later_keeps P call None own rest = own
-later_keeps P call (Some next) own rest = elim (cases_Bool (nat_lt next.tick call.tick)) [
-  | inl hit ↦ rw hit own
-  | inr miss ↦ rw miss rest
-]
+later_keeps P call (Some next) own rest =
+    elim (cases_Bool (nat_lt (call_due next) (call_due call))) [
+      | inl hit ↦ rw hit own
+      | inr miss ↦ rw miss rest
+    ]
 
 latest_keeps : (P : JournalCall → Type 0) (xs : List JournalCall) → AllByRecursion P xs
     → IfSome (latest xs) P

@@ -1,20 +1,18 @@
 -- The history of a capture: what a run leaves is the serial one, and it is legal.
-use Rattle.std.proofs.Common.{◌≡◌, ℕ, ◌+◌, ◌*◌, ◌^◌, ◌<◌, ◌≤◌, List, [], map, length, refl, sym, ap}
-use Rattle.std.proofs.Common.{subst, ◌∙◌, arith, get_or, zero-add}
+use Rattle.std.proofs.Common.{◌≡◌, ℕ, ◌*◌, ◌^◌, ◌<◌, ◌≤◌, List, [], map, length, refl, sym, ap}
+use Rattle.std.proofs.Common.{subst, ◌∙◌, arith, zero-add}
 use Rattle.std.specs.Prelude.{All}
 use Rattle.std.specs.List.{AllByRecursion, range_with_len, sum_by}
 use Rattle.std.proofs.lemmas.List.Elements.{recursion_from_All}
-use Rattle.std.proofs.Math.Nat.{mul-le-mul_left, mul-le-mul_right}
+use Rattle.std.proofs.Math.Nat.{mod-lt, mul-le-mul_left, mul-le-mul_right}
 use Rattle.std.proofs.lemmas.List.FromFn.{get_or-map-range_with_len, length-map-range_with_len}
 use Rattle.io_caps.specs.declared.limits.TheConstants.{CAPTURE_TICKS, MOST_OUTPUTS, TICKS_PAST_BASE}
 use Rattle.map_entry.specs.Setup.{SetupParts, IsSetup}
-use Rattle.map_entry.specs.declared.cell.Cell.{Cell}
 use Rattle.map_entry.specs.declared.entry.Entry.{Entry}
-use Rattle.map_entry.specs.Row.{channels_of_output}
 use Rattle.capture_file.specs.Capture.{CaptureParts, IsCapture}
 use Rattle.capture_file.specs.Items.{IsItemThere, claims_of, item}
 use Rattle.capture_file.specs.Result.{FitsClaim}
-use Rattle.packet_writer.specs.Packet.{Blocks, RowFits, output_of_claim}
+use Rattle.packet_writer.specs.Packet.{Blocks, output_of_claim, tick_of_claim}
 use Rattle.book_words.specs.declared.calls.JournalCall.{JournalCall}
 use Rattle.book_words.specs.declared.history.ClaimItem.{ClaimItem}
 use Rattle.book_words.specs.declared.history.ReplyItem.{ReplyItem}
@@ -31,28 +29,30 @@ use Rattle.interleavings.specs.Legal.{IsClaim, IsLegalHistory, StandsThere, clos
 use Rattle.interleavings.specs.Legal.{first_floor}
 use Rattle.interleavings.specs.Serial.{closed_claim}
 use Rattle.interleavings.specs.Told.{AreSaid, given_to}
-use Rattle.interleavings.proofs.Telling.{told_replies}
+use Rattle.interleavings.proofs.Telling.{AreEachSaid, told_calls, told_replies}
+use Rattle.interleavings.proofs.Shown.{rows_fit}
 use Rattle.interleavings.proofs.Whole.{claims_legal}
+use Rattle.plain_book.proofs.Sound.{entries_are}
+use Rattle.plain_book.specs.Legal.{IsLegalJournal}
 use Rattle.serial_player.specs.Asks.{asked_by, says_by}
 use Rattle.serial_player.specs.Legal.{IsLegalClosed}
-use Rattle.serial_player.specs.Run.{AreLeft, begun}
+use Rattle.serial_player.specs.Run.{AreLeft}
 use Rattle.serial_player.specs.Serial.{HasTurns, Played, asks_of, blocks_of, history_by}
 use Rattle.serial_player.specs.Serial.{packets_in, play_all, played, serial_history, steps_of}
 use Rattle.serial_player.specs.Streams.{Turn}
-use Rattle.serial_player.specs.Table.{table_of, HasTick, BlockTable}
+use Rattle.serial_player.specs.Table.{table_of}
 use Rattle.serial_player.specs.declared.asks.Step.{Step}
 use Rattle.serial_player.specs.declared.run.RunParts.{RunParts}
 use Rattle.serial_player.proofs.Stepping.{all_claims, resolved_claims}
 use Rattle.serial_player.proofs.Tables.{table_has, table_is}
-use Rattle.serial_player.proofs.Ticks.{begun_all}
 use Rattle.serial_player.proofs.Told.{are_given, given_by, said_all, stamps_rise}
 use Rattle.serial_player.proofs.Wholes.{history_fits, steps_fit}
-use Rattle.serial_player.specs.Claim.{AreRuling, HasRow, HaveRows, claim_by}
+use Rattle.serial_player.specs.Claim.{FitsOutput, claim_by}
 use Rattle.serial_player.specs.HistoryParts.{AreHistoryParts, history_by_parts}
 use Rattle.serial_player.specs.declared.player.HistoryParts.{HistoryParts}
 use Rattle.serial_player.proofs.PacketLengths.{closed_fits}
 use Rattle.serial_player.specs.declared.claims.AllClaims.{AllClaims}
-use Rattle.serial_player.specs.Made.{AreReady}
+use Rattle.serial_player.specs.Made.{AreBy, AreClaimsOf, AreReady, all_made_by}
 
 bounded : (a b c d : ℕ) → a ≤ b → c ≤ d → a * c ≤ b * d
 bounded a b c d x y = omega (arith, mul-le-mul_right c x, mul-le-mul_left b y)
@@ -89,6 +89,11 @@ legal_is c turns count =
     let given : List Given = given_by s (played 0 [] [] []) steps in
     let are : AreGiven s [] 0 given p.journal p.claims = are_given s (played 0 [] [] []) steps in
     let sorted = in_order_keeps p.told (stamps_rise s steps) in
+    let said : AreEachSaid (asked_by s.device) (says_by s.device) (asks_of turns) given
+    (in_order p.told) =
+    λ client. subst (λ (items : List ReplyItem). AreSaid (asked_by s.device)
+    (says_by s.device) first_floor (asks_of turns client) (given_to client given) items)
+    (sym (sorted.own client)) (said_all s steps client) in
     subst (λ (m : ℕ). IsLegalHistory s (asked_by s.device) (says_by s.device) StandsThere m blocks
     (closed_form s p.journal blocks) (asks_of turns) (history_by c p)) count
     (record {
@@ -96,45 +101,31 @@ legal_is c turns count =
       claimed = claims_legal s p.journal blocks (closed_form s p.journal blocks)
           (closed_claim s p.journal blocks) p.claims (closed_is s p.journal blocks);
       replied = told_replies s (asked_by s.device) (says_by s.device) p.journal p.claims
-          (asks_of turns) given (in_order p.told) are
-          (λ client. subst (λ (items : List ReplyItem). AreSaid (asked_by s.device)
-          (says_by s.device) first_floor (asks_of turns client) (given_to client given) items)
-          (sym (sorted.own client)) (said_all s steps client))
-          sorted.ordered;
+          (asks_of turns) given (in_order p.told) are said sorted.ordered;
+      calls = told_calls s (asked_by s.device) (says_by s.device) p.journal p.claims
+          (asks_of turns) given (in_order p.told) are said;
     })
 
 -- ---- what all records did
 
--- the rows rule all claims
-all_ruled : (s : SetupParts) (ticks : ℕ) (p : Played) (left : RunParts) → IsSetup s
-    → AreLeft s p left → p.claims ≡ ticks * length s.device.outputs
-    → AreRuling s (entries_of s p.journal) (ticks * length s.device.outputs) left.rows
-all_ruled s ticks p left checked is count =
-    let n = length s.device.outputs in
-    let whole : begun n p.claims ≡ ticks * n =
-    ap (begun n) count ∙ begun_all n ticks (has_outputs s checked) in
-    subst (λ (m : ℕ). AreRuling s (entries_of s p.journal) m left.rows) whole is.rows
+-- the rows of all claims fit their outputs
+pub all_fit : (s : SetupParts) (m : ℕ) (journal : List JournalCall) (k : ℕ) → IsSetup s
+    → IsLegalJournal s m journal → FitsOutput s (entries_of s journal) k
+all_fit s m journal k checked legal frame within =
+    let some = has_outputs s checked in
+    rows_fit s (entries_of s journal) (output_of_claim s k) (tick_of_claim s k) frame
+    (entries_are s m journal checked some legal) (mod-lt k some) (omega arith)
 
--- the claims that they rule fit the fields of a result
-claims_fit : (s : SetupParts) (journal : List JournalCall) (blocks : Blocks) (count : ℕ)
-    (rows : List (List Cell)) → IsSetup s → count < 256 ^ 8
-    → AreRuling s (entries_of s journal) count rows
+-- the claims fit the fields of a result
+claims_fit : (s : SetupParts) (m : ℕ) (journal : List JournalCall) (blocks : Blocks) (count : ℕ)
+    → IsSetup s → IsLegalJournal s m journal → count < 256 ^ 8
     → All (FitsClaim s.device) (map (closed_claim s journal blocks) (range_with_len 0 count))
-claims_fit s journal blocks count rows is few are i d within =
+claims_fit s m journal blocks count is legal few i d within =
     let claims = closed_claim s journal blocks in
-    let entries = entries_of s journal in
     let lt : i < count = omega (arith, within, length-map-range_with_len claims 0 count) in
-    let at : i < length rows = omega (arith, lt, are.long) in
-    let row = get_or rows i [] in
-    let place : 0 + i ≡ i = zero-add i in
-    let rule : HasRow s entries i row =
-    subst (λ (k : ℕ). HasRow s entries k row) place (are.rule i at) in
-    let fit : RowFits s.device.inputs (channels_of_output s.device (output_of_claim s i)) row =
-    subst (λ (k : ℕ). RowFits s.device.inputs (channels_of_output s.device (output_of_claim s k))
-    row)
-    place (are.fit i at) in
     rw (get_or-map-range_with_len claims 0 count i i d lt (zero-add i))
-    (closed_fits s entries blocks i row is.device (omega (arith, lt, few)) rule fit)
+    (closed_fits s (entries_of s journal) blocks i is.device (omega (arith, lt, few))
+    (all_fit s m journal i is legal))
 
 -- the history that is made of them is the serial one
 made_is : (c : CaptureParts) (p : HistoryParts) (q : Played) → packets_in c ≡ q.claims
@@ -145,10 +136,11 @@ made_is c p q count journal replies =
 -- where all steps were taken
 pub parts_are : (c : CaptureParts) (steps : List Step) (left : RunParts) (p : HistoryParts)
     → IsCapture c → HasTurns c.items steps → AreLeft c.setup (play_all c.setup steps) left
-    → p.table ≡ table_of c.setup.device c.items c.ticks → p.rows ≡ left.rows
-    → p.journal ≡ left.journal → p.replies ≡ in_order left.replies → AreHistoryParts c p
+    → p.table ≡ table_of c.setup.device c.items c.ticks → p.claims ≡ left.claims
+    → p.entries ≡ left.entries → p.journal ≡ left.journal → p.replies ≡ in_order left.replies
+    → AreHistoryParts c p
 unfolding serial_history
-parts_are c steps left p capture of is table rows journal replies =
+parts_are c steps left p capture of is table number entries journal replies =
     let s = c.setup in
     let blocks = blocks_of c in
     let checked = capture.setup in
@@ -163,8 +155,7 @@ parts_are c steps left p capture of is table rows journal replies =
     let calls : p.journal ≡ q.journal = journal ∙ has.journal in
     let made : history_by_parts c p ≡ history_by c q =
     made_is c p q (sym count) calls (replies ∙ ap in_order has.replies) in
-    let ruled : AreRuling s (entries_of s p.journal) (packets_in c) p.rows =
-    rw (calls, rows) (all_ruled s c.ticks q left checked has count) in
+    let legal : IsLegalClosed c of.turns (serial_history c of.turns) = legal_is c of.turns count in
     let few : packets_in c < 256 ^ 8 =
     omega (arith, few_claims c capture checked.device.bounds.few_outputs, capture.work) in
     record {
@@ -173,9 +164,9 @@ parts_are c steps left p capture of is table rows journal replies =
         items_are = of.items_are;
         streams = of.streams;
         value = made;
-        legal = subst (IsLegalClosed c of.turns) (sym made) (legal_is c of.turns count);
+        legal = subst (IsLegalClosed c of.turns) (sym made) legal;
       };
-      fits = λ fits.
+      fits = λ fits tick.
           let each : AllByRecursion item.Fits (map (λ t. t.item) of.turns) =
           subst (AllByRecursion item.Fits) (sym of.items_are)
           (recursion_from_All item.Fits c.items fits) in
@@ -185,57 +176,62 @@ parts_are c steps left p capture of is table rows journal replies =
           let short : q.claims < 256 ^ 8 = rw count few in
           let claims : All (FitsClaim s.device)
           (map (closed_claim s q.journal blocks) (range_with_len 0 q.claims)) =
-          rw (sym calls, count)
-          (claims_fit s p.journal blocks (packets_in c) p.rows checked few ruled) in
+          claims_fit s q.claims q.journal blocks q.claims checked has.legal short in
           rw made (history_fits s blocks (steps_of of.turns)
-          (map (closed_claim s q.journal blocks) (range_with_len 0 q.claims)) checked
-          (steps_fit inputs of.turns each there) short has.held refl claims);
+          (map (closed_claim s q.journal blocks) (range_with_len 0 q.claims)) checked tick
+          (steps_fit inputs of.turns each there) short has.few has.held refl claims);
       table = table;
-      rows = ruled;
+      claims = number ∙ has.claims ∙ count;
+      entries = entries ∙ has.entries ∙ ap (entries_of s) (sym calls);
     }
 
 -- the claims can be made
 pub are_ready : (c : CaptureParts) (p : HistoryParts) (claims : AllClaims) → IsCapture c
-    → AreHistoryParts c p → claims.setup.now ≡ c.setup → claims.rows.now ≡ p.rows
-    → claims.table.now ≡ p.table → AreReady claims
-are_ready c p claims capture is setup rows table = record {
+    → AreHistoryParts c p → claims.setup.now ≡ c.setup → claims.count ≡ p.claims
+    → claims.entries.now ≡ p.entries → claims.table.now ≡ p.table → AreReady claims
+are_ready c p claims capture is setup count entries table = record {
   claims = omega (
     arith,
-    ap length rows,
-    is.rows.long,
+    count,
+    is.claims,
     capture.work,
     few_claims c capture capture.setup.device.bounds.few_outputs,
   );
   device = rw setup capture.setup.device;
-  rows = rw (setup, rows) is.rows.fit;
+  rows = λ k lt. rw (setup, entries ∙ is.entries)
+      (all_fit c.setup _ p.journal k capture.setup is.serial.legal.journal);
   table = rw (setup, table ∙ is.table) (table_is c.setup.device c.items c.ticks);
 }
 
 -- and are those of the serial history
-pub all_made : (c : CaptureParts) (p : HistoryParts) (rows : List (List Cell)) (table : BlockTable)
-    → IsCapture c → AreHistoryParts c p → rows ≡ p.rows → table ≡ p.table
-    → HaveRows c.setup (entries_of c.setup p.journal) 0 rows
-    × ((k : ℕ) → k < length rows → HasTick c.setup table (blocks_of c) k)
-all_made c p rows table capture is same table_same = (
-  subst (HaveRows c.setup (entries_of c.setup p.journal) 0) (sym same) is.rows.rule,
-  λ k lt.
-      rw (table_same ∙ is.table)
+pub all_made : (c : CaptureParts) (p : HistoryParts) (claims : AllClaims) → IsCapture c
+    → AreHistoryParts c p → claims.setup.now ≡ c.setup → claims.count ≡ p.claims
+    → claims.entries.now ≡ p.entries → claims.table.now ≡ p.table
+    → AreBy claims (entries_of c.setup p.journal) (blocks_of c)
+all_made c p claims capture is setup count entries table = (
+  entries ∙ is.entries,
+  λ k lt. rw (setup, table ∙ is.table)
       (table_has c.setup c.items c.ticks k (has_outputs c.setup capture.setup)
-      (omega (arith, lt, ap length same, is.rows.long))),
+      (omega (arith, lt, count, is.claims))),
 )
 
+-- each claim that they make is that of the capture's setup
+pub same_setup : (c : CaptureParts) (claims : AllClaims) (entries : List Entry) (blocks : Blocks)
+    → claims.setup.now ≡ c.setup
+    → all_made_by claims entries blocks ≡ claim_by c.setup entries blocks
+same_setup c claims entries blocks setup =
+    ap (λ (x : SetupParts). claim_by x entries blocks) setup
+
 -- so is the history that is made of them
-pub history_made : (c : CaptureParts) (p : HistoryParts) (rows : List (List Cell))
-    (table : BlockTable) (claims : List ClaimItem) → IsCapture c → AreHistoryParts c p
-    → rows ≡ p.rows → table ≡ p.table
-    → ((entries : List Entry) (blocks : Blocks) → HaveRows c.setup entries 0 rows
-    × ((k : ℕ) → k < length rows → HasTick c.setup table blocks k)
-    → claims ≡ map (claim_by c.setup entries blocks) (range_with_len 0 (length rows)))
-    → history_of claims p.journal p.replies ≡ history_by_parts c p
-history_made c p rows table claims capture is same table_same value =
-    let s = c.setup in
+pub history_made : (c : CaptureParts) (p : HistoryParts) (claims : AllClaims)
+    (made : List ClaimItem) → IsCapture c → AreHistoryParts c p → claims.setup.now ≡ c.setup
+    → claims.count ≡ p.claims → claims.entries.now ≡ p.entries → claims.table.now ≡ p.table
+    → AreClaimsOf claims made → history_of made p.journal p.replies ≡ history_by_parts c p
+history_made c p claims made capture is setup count entries table value =
+    let es = entries_of c.setup p.journal in
     ap (λ (xs : List ClaimItem). history_of xs p.journal p.replies)
-    (value (entries_of s p.journal) (blocks_of c)
-    (all_made c p rows table capture is same table_same)
-    ∙ ap (λ (m : ℕ). map (closed_claim s p.journal (blocks_of c)) (range_with_len 0 m))
-    (ap length same ∙ is.rows.long))
+    (value es (blocks_of c) (all_made c p claims capture is setup count entries table)
+    ∙ ap (λ (claim : ℕ → ClaimItem). map claim (range_with_len 0 claims.count))
+    (same_setup c claims es (blocks_of c) setup)
+    ∙ ap (λ (m : ℕ). map (closed_claim c.setup p.journal (blocks_of c)) (range_with_len 0 m))
+    (count ∙ is.claims))

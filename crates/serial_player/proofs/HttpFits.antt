@@ -50,7 +50,7 @@ use Rattle.api_routes.proofs.AskLemmas.{MayAsk, http_asks}
 use Rattle.capture_file.specs.Requests.{action, cell, change, channels_rise, output_change, request}
 use Rattle.capture_file.specs.Requests.{rises_from, time}
 use Rattle.capture_file.proofs.Order.{first_rises, ordered_action, ordered_channels, rises_rest}
-use Rattle.serial_player.proofs.Tallies.{id_fits}
+use Rattle.serial_player.proofs.Tallies.{IsHeld, id_fits}
 use Rattle.serial_player.proofs.Refusals.{output_channels}
 use Rattle.list_laws.proofs.Options.{option_map-None, option_or-first, option_or-second}
 
@@ -255,10 +255,10 @@ activated_fits d body w a r is same free (inr read) =
 -- a request of a stream that the book accepts fits
 pub http_fits : (s : SetupParts) (journal : List JournalCall) (client claims : ℕ)
     (http : HttpRequest) (r : Request) (call : JournalCall) → IsSetup s
-    → IsLegalJournal s claims journal
+    → IsLegalJournal s claims journal → IsHeld journal
     → request_asked s.device http ≡ Some r
     → call_of s journal client claims r (reply_of s journal claims r) ≡ Some call → request.Fits r
-http_fits s journal client claims http r call is legal asked made =
+http_fits s journal client claims http r call is legal held asked made =
     let parts = call_parts s journal client claims r (reply_of s journal claims r) call made in
     elim (cases s journal call (accepted_by s journal client claims r call made)) [
       | inl a ↦ activated_fits s.device http.body a.0 a.1 r is.device (sym parts.asks
@@ -266,7 +266,7 @@ http_fits s journal client claims http r call is legal asked made =
           (http_asks s.device http r asked)
       | inr d ↦
           let found = found_waits s journal call.at d.0 d.1 d.2.is in
-          let low = id_fits s claims journal d.1 is legal found.0 in
+          let low = id_fits s claims journal d.1 legal held found.0 in
           subst request.Fits (sym (sym parts.asks ∙ d.2.asks))
           (delete_fits d.0 (omega (arith, low, found.2)))
     ]

@@ -3,13 +3,14 @@ pub mod Places
 pub mod Tables
 pub mod Packets
 pub mod TableClaims
-pub mod Ticks
 pub mod Running
 pub mod Stepping
 pub mod Beginning
 pub mod Told
 pub mod Replying
 pub mod Hearing
+pub mod Offsets
+pub mod Pendings
 pub mod Tallies
 pub mod Fitting
 pub mod Refusals

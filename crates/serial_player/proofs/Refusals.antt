@@ -4,7 +4,7 @@ use Rattle.std.proofs.Common.{[], ◌∷◌, length, map, Option, Some, None, in
 use Rattle.std.specs.Prelude.{IfSome, find, nat_lt, option_map, slice_get, if◌then◌else◌}
 use Rattle.std.specs.List.{AllByRecursion, range_with_len}
 use Rattle.std.specs.Option.{option_map_or, option_or}
-use Rattle.std.proofs.lemmas.Bool.{cases_Bool, ltb-true, and_parts, or_parts, false≢true}
+use Rattle.std.proofs.lemmas.Bool.{cases_Bool, ltb-true, or_parts, false≢true}
 use Rattle.std.proofs.lemmas.List.Elements.{recursion_from_All}
 use Rattle.tai_time.specs.Time.{nanos_limit}
 use Rattle.io_caps.specs.declared.device.DeviceParts.{DeviceParts}
@@ -14,6 +14,7 @@ use Rattle.map_entry.specs.Action.{OutputChangeParts, applied}
 use Rattle.map_entry.specs.Row.{channels_of_output, is_allowed, is_channel_there, is_input_there}
 use Rattle.map_entry.specs.Row.{lowest_out, ordered_from, routable_of, row_fault, whole_from}
 use Rattle.map_entry.specs.Setup.{IsSetup, SetupParts}
+use Rattle.map_entry.specs.declared.grain.Grain.TheVariants.{Tick}
 use Rattle.map_entry.specs.declared.cell.Cell.{Cell}
 use Rattle.map_entry.specs.declared.change.Change.{Change}
 use Rattle.map_entry.specs.declared.fault.RowFault.{RowFault}
@@ -22,7 +23,8 @@ use Rattle.map_entry.specs.declared.fault.RowFault.TheVariants.{Channel as NoCha
 use Rattle.map_entry.specs.declared.fault.RowFault.TheVariants.{Block, Order}
 use Rattle.map_entry.proofs.Changes.{length-applied}
 use Rattle.plain_book.specs.Book.{bad_channel_at, bad_channel_of, bad_row_at, empty_by, first_some}
-use Rattle.plain_book.specs.Book.{landing_tick, locked_at, refusal_of, reply_of, unknown_at}
+use Rattle.plain_book.specs.Book.{landing_offset, landing_tick, locked_at, refusal_of, reply_of}
+use Rattle.plain_book.specs.Book.{unknown_at}
 use Rattle.plain_book.specs.Book.{unknown_by, view_of}
 use Rattle.plain_book.specs.Journal.{entries_of, row_from}
 use Rattle.plain_book.specs.Legal.{IsLegalJournal}
@@ -33,7 +35,6 @@ use Rattle.book_words.specs.declared.calls.JournalCall.{JournalCall}
 use Rattle.book_words.specs.declared.replies.Refusal.{Refusal}
 use Rattle.book_words.specs.declared.replies.Refusal.TheVariants.{Empty, Unknown, BadChannel}
 use Rattle.book_words.specs.declared.replies.Refusal.TheVariants.{Locked, Row, Time, NotPending}
-use Rattle.book_words.specs.declared.replies.Refusal.TheVariants.{Full}
 use Rattle.book_words.specs.declared.replies.Reply.TheVariants.{Deleted, Active, Pending, Refused}
 use Rattle.book_words.specs.declared.requests.Request.{Request}
 use Rattle.book_words.specs.declared.requests.Request.TheVariants.{Activate, Delete}
@@ -44,13 +45,17 @@ use Rattle.book_words.specs.declared.requests.When.TheVariants.{Now, At, After}
 use Rattle.plain_book.proofs.Keeping.{has_outputs}
 use Rattle.plain_book.proofs.Locks.{is_free}
 use Rattle.plain_book.proofs.Sound.{IsSound, row_from_is, sound}
-use Rattle.capture_file.specs.Requests.{action, change as one_change, output_change, request}
+use Rattle.capture_file.specs.Requests.{action, change as one_change, moment, output_change}
+use Rattle.capture_file.specs.Requests.{request}
 use Rattle.capture_file.specs.Replies.{refusal as refusal_form, reply as reply_form}
 use Rattle.capture_file.specs.Replies.{row_fault as fault_form, view}
 use Rattle.capture_file.specs.Result.{widths_of}
+use Rattle.capture_file.proofs.RequestLaws.{moment_fits}
 use Rattle.serial_player.proofs.Fitting.{IsFitCall, latest_fits, pending_fits, request_parts}
-use Rattle.serial_player.proofs.Fitting.{rows_fit, filter_less}
-use Rattle.serial_player.proofs.Tallies.{have_places, next_few, schedules, tick_fits}
+use Rattle.serial_player.proofs.Fitting.{rows_fit}
+use Rattle.serial_player.proofs.Offsets.{lands_first}
+use Rattle.serial_player.proofs.Pendings.{few_pending}
+use Rattle.serial_player.proofs.Tallies.{IsHeld, key_fits, next_few}
 use Rattle.list_laws.proofs.Options.{option_or-first, option_or-second}
 
 unflip : (b : Bool) → not b ≡ false → b ≡ true
@@ -148,7 +153,6 @@ IsByteRefusal (Locked output) = output < 256
 IsByteRefusal (Row output fault) = (output < 256) × IsByteFault fault
 IsByteRefusal Time = Unit {0}
 IsByteRefusal (NotPending id) = id < 256 ^ 8
-IsByteRefusal Full = Unit {0}
 
 -- the numbers of an action are bytes
 abbrev IsByteChange : OutputChangeParts → Type 0
@@ -276,8 +280,7 @@ refusal_low s journal claims when a is rows low =
     (each_low (λ (c : OutputChangeParts). IsByteChange c × (c.output < length s.device.outputs))
     IsByteRefusal (bad_row_at s (entries_of s journal) claims a)
     (λ c h. row_low s journal claims a c is rows h) a (all_known s.device a there low))) (λ e5.
-    or_low IsByteRefusal _ _ (if_low IsByteRefusal (is_time_over s claims when) Time tt)
-    (λ e6. if_low IsByteRefusal _ Full tt))))))
+    if_low IsByteRefusal (is_time_over s claims when) Time tt)))))
 
 refused_fits : (widths : List ℕ) (r : Refusal) → IsByteRefusal r
     → (reply_form widths).Fits (Refused r)
@@ -442,50 +445,16 @@ refused_fits widths (NotPending id) low = (
     ),
   ),
 )
-refused_fits widths Full low = (
-  omega arith,
-  inr (
-    λ e. omega (arith, e),
-    inr (
-      λ e. omega (arith, e),
-      inr (
-        λ e. omega (arith, e),
-        inr (
-          λ e. omega (arith, e),
-          inr (
-            λ e. omega (arith, e),
-            inr (
-              λ e. omega (arith, e),
-              inr (
-                λ e. omega (arith, e),
-                inr (
-                  λ e. omega (arith, e),
-                  inr (
-                    λ e. omega (arith, e),
-                    inr (
-                      λ e. omega (arith, e),
-                      inr (λ e. omega (arith, e), inr (λ e. omega (arith, e), inl (refl, refl))),
-                    ),
-                  ),
-                ),
-              ),
-            ),
-          ),
-        ),
-      ),
-    ),
-  ),
-)
 
 -- ---- what accepts
 
-accepted_fits : (widths : List ℕ) (when : When) (id tick : ℕ) → id < 256 ^ 8 → tick < 256 ^ 8
-    → (reply_form widths).Fits (accepted when id tick)
+accepted_fits : (widths : List ℕ) (when : When) (id tick offset : ℕ) → id < 256 ^ 8
+    → moment.Fits (tick, offset) → (reply_form widths).Fits (accepted when id tick offset)
 unfolding reply_form
-accepted_fits widths Now id tick low here = (omega arith, inl (refl, ((low, here), refl)))
-accepted_fits widths (At time) id tick low here =
+accepted_fits widths Now id tick offset low here = (omega arith, inl (refl, ((low, here), refl)))
+accepted_fits widths (At time) id tick offset low here =
     (omega arith, inr (λ e. omega (arith, e), inl (refl, ((low, here), refl))))
-accepted_fits widths (After time) id tick low here =
+accepted_fits widths (After time) id tick offset low here =
     (omega arith, inr (λ e. omega (arith, e), inl (refl, ((low, here), refl))))
 
 deleted_fits : (widths : List ℕ) (id : ℕ) → id < 256 ^ 8 → (reply_form widths).Fits (Deleted id)
@@ -502,22 +471,23 @@ land_fits s claims when is over =
     let past : is_past (start s (land s claims when)) ≡ false =
     (or_parts (is_sum_over s (tick_after s claims) when) (is_past (start s (land s claims when)))
     over).1 in
-    tick_fits s.device.rate (land s claims when) is.device.bounds.rate
-    (not_past (start s (land s claims when)) past)
+    key_fits s (land s claims when) is (not_past (start s (land s claims when)) past)
 
 activation_fits : (s : SetupParts) (journal : List JournalCall) (claims : ℕ) (when : When)
-    (a : List OutputChangeParts) (o : Option Refusal) → IsSetup s → IsLegalJournal s claims journal
+    (a : List OutputChangeParts) (o : Option Refusal) → IsSetup s → s.grain ≡ Tick → IsHeld journal
     → refusal_of s journal claims when a ≡ o → IfSome o IsByteRefusal
     → (reply_form (widths_of s.device)).Fits
-    (option_map_or Refused o (accepted when (next_id journal) (landing_tick s claims when)))
-activation_fits s journal claims when a (Some r) is legal free low =
+    (option_map_or Refused o
+    (accepted when (next_id journal) (landing_tick s claims when) (landing_offset s claims when)))
+activation_fits s journal claims when a (Some r) is whole held free low =
     refused_fits (widths_of s.device) r low
-activation_fits s journal claims when a None is legal free low =
-    let few = next_few s claims journal is legal in
+activation_fits s journal claims when a None is whole held free low =
     let over = not_over (is_time_over s claims when)
     (is_free s journal claims when a free).in_time in
     accepted_fits (widths_of s.device) when (next_id journal) (landing_tick s claims when)
-    (omega (arith, few)) (land_fits s claims when is over)
+    (landing_offset s claims when) (next_few journal held)
+    (moment_fits (landing_tick s claims when) (landing_offset s claims when)
+    (land_fits s claims when is over) (lands_first s claims when whole))
 
 deletion_fits : (widths : List ℕ) (id : ℕ) (o : Option JournalCall) → id < 256 ^ 8
     → (reply_form widths).Fits (option_map_or (λ call. Deleted id) o (Refused (NotPending id)))
@@ -561,20 +531,14 @@ shown_fits s journal claims is rows calls = (
   ),
 )
 
-scheduled_pending : (s : SetupParts) (journal : List JournalCall) (claims : ℕ) (call : JournalCall)
-    → is_pending s journal claims call ≡ true → schedules call ≡ true
-scheduled_pending s journal claims call is = (and_parts (schedules call) _ is).0
-
 list_fits : (s : SetupParts) (journal : List JournalCall) (claims : ℕ) → IsSetup s
     → IsLegalJournal s claims journal → AllByRecursion IsFitCall journal
     → (reply_form (widths_of s.device)).Fits (Pending (map item_of (pending_of s journal claims)))
 unfolding reply_form
 list_fits s journal claims is legal calls =
-    let h = have_places s claims journal is legal in
-    let less = filter_less (is_pending s journal claims) schedules
-    (scheduled_pending s journal claims) journal in
+    let most = few_pending s claims journal is legal in
     let few : length (pending_of s journal claims) < 256 =
-    omega (arith, less, h.two, h.room, is.device.bounds.some_output) in (
+    omega (arith, most, is.device.bounds.few_outputs) in (
       omega arith,
       inr (
         λ e. omega (arith, e),
@@ -593,17 +557,17 @@ list_fits s journal claims is legal calls =
 
 -- the book's reply to what fits
 pub reply_fits : (s : SetupParts) (journal : List JournalCall) (claims : ℕ) (r : Request)
-    → IsSetup s → IsLegalJournal s claims journal → AllByRecursion IsFitCall journal
-    → request.Fits r
+    → IsSetup s → s.grain ≡ Tick → IsLegalJournal s claims journal → IsHeld journal
+    → AllByRecursion IsFitCall journal → request.Fits r
     → (reply_form (widths_of s.device)).Fits (reply_of s journal claims r)
 unfolding reply_of
-reply_fits s journal claims (Activate when a) is legal calls fits =
+reply_fits s journal claims (Activate when a) is whole legal held calls fits =
     let rows = sound s claims journal is (has_outputs s is) legal in
-    activation_fits s journal claims when a (refusal_of s journal claims when a) is legal refl
+    activation_fits s journal claims when a (refusal_of s journal claims when a) is whole held refl
     (refusal_low s journal claims when a is rows (action_low a (request_parts when a fits).1))
-reply_fits s journal claims (Delete id) is legal calls fits =
+reply_fits s journal claims (Delete id) is whole legal held calls fits =
     deletion_fits (widths_of s.device) id (pending_call s journal claims id) (id_of id fits)
-reply_fits s journal claims AskActive is legal calls fits =
+reply_fits s journal claims AskActive is whole legal held calls fits =
     shown_fits s journal claims is (sound s claims journal is (has_outputs s is) legal) calls
-reply_fits s journal claims AskPending is legal calls fits =
+reply_fits s journal claims AskPending is whole legal held calls fits =
     list_fits s journal claims is legal calls

@@ -26,12 +26,12 @@ use Rattle.interleavings.proofs.Places.{after_length}
 use Rattle.io_caps.specs.declared.device.DeviceParts.{DeviceParts}
 use Rattle.book_words.specs.declared.history.Said.TheVariants.{Plain, Http}
 use Rattle.http_wire.specs.declared.request.HttpRequest.{HttpRequest}
-use Rattle.api_routes.specs.Answer.{IsServed, OnAt, OnStill, response_of, stream_response}
+use Rattle.api_routes.specs.Answer.{IsServed, OnStill, response_of, stream_response}
 use Rattle.api_routes.specs.declared.serve.Answered.{Answered}
 use Rattle.api_routes.specs.Plan.{request_asked}
 use Rattle.api_routes.specs.declared.serve.Answered.TheVariants.{At, Still}
 use Rattle.serial_player.specs.Asks.{asked_by, says_by}
-use Rattle.serial_player.specs.Run.{AreAll, HasAsked, HasPlayed, IsWritable, IsShort, floor_at}
+use Rattle.serial_player.specs.Run.{AreAll, HasAsked, HasPlayed, IsWritable, IsShort, floor_at, counts_claims}
 use Rattle.serial_player.specs.Serial.{Played, answer_to, floor_of, play_step, told_at, told_by}
 use Rattle.serial_player.specs.declared.asks.ClientAsk.{ClientAsk}
 use Rattle.serial_player.specs.declared.asks.ClientAsk.TheVariants.{Asked, Whole, Refused}
@@ -64,7 +64,6 @@ pub record IsByBook (client : ℕ) (ask : ClientAsk) (old new : Run) : Type 0 wh
   pub own : new.setup ≡ old.setup
   pub setup : new.desk.setup ≡ old.desk.setup
   pub same : new.desk.claims ≡ old.desk.claims
-  pub rows : new.rows ≡ old.rows
   pub told : new.replies ≡ old.replies ++ reply_item client place said ∷ []
   pub few : length new.desk.journal < 256 ^ 8
   pub short : IsShort said
@@ -181,7 +180,7 @@ by_book client ask old new lt all is = record {
       (calls ∙ ap (λ (x : SetupParts). old.desk.journal ++ option_to_list
       (call_of x old.desk.journal client old.desk.claims is.request
       (reply_of x old.desk.journal old.desk.claims is.request))) run.setup)
-      is.rows (told_one old.replies new.replies client is.place is.said is.told
+      (told_one old.replies new.replies client is.place is.said is.told
       (omega (
         arith,
         is.few,
@@ -209,7 +208,6 @@ pub record IsWithout (client : ℕ) (ask : ClientAsk) (old new : Run) : Type 0 w
   pub says : says_by old.desk.setup.device ask None ≡ Some said
   pub own : new.setup ≡ old.setup
   pub desk : new.desk ≡ old.desk
-  pub rows : new.rows ≡ old.rows
   pub told : new.replies ≡ old.replies ++ reply_item client (floor_at old.floors client) said ∷ []
   pub few : (floor_at old.floors client).calls < 256 ^ 8
   pub short : IsShort said
@@ -240,7 +238,7 @@ pub without_book : (client : ℕ) (ask : ClientAsk) (old new : Run) → client <
     → AreAll old.floors → IsWithout client ask old new → HasAsked client ask old new
 without_book client ask old new lt all is = record {
   run = λ s run.
-      told_run s old new run is.own is.desk is.rows
+      told_run s old new run is.own is.desk
       (told_one old.replies new.replies client (floor_at old.floors client) is.said is.told is.few
       is.short run.held) (subst AreAll (sym is.floors) all);
   does = λ s p checked setup has. subst
@@ -255,13 +253,13 @@ pub plain_asked : (client : ℕ) (request : Request) (reply : Reply) (place : St
     → client < CLIENTS → AreAll old.floors
     → IsAsked old.desk.setup old.desk.journal new.desk.journal client request reply place
     → place.claims ≡ old.desk.claims → new.desk.setup ≡ old.desk.setup
-    → old.desk.claims ≡ new.desk.claims → new.rows ≡ old.rows
+    → old.desk.claims ≡ new.desk.claims
     → new.replies ≡ old.replies ++ reply_item client place (Plain reply) ∷ []
     → length new.desk.journal < 256 ^ 8
     → new.floors.places.items ≡ slice_set old.floors.places.items client
     (stamp (length new.desk.journal) new.desk.claims) → new.setup ≡ old.setup
     → HasAsked client (Asked request) old new
-plain_asked client request reply place old new lt all asked at setup same rows told few floors
+plain_asked client request reply place old new lt all asked at setup same told few floors
     own = by_book client (Asked request) old new lt all (record {
       request = request;
       reply = reply;
@@ -273,7 +271,6 @@ plain_asked client request reply place old new lt all asked at setup same rows t
       at = at;
       setup = setup;
       same = sym same;
-      rows = rows;
       told = told;
       few = few;
       short = tt;
@@ -287,32 +284,26 @@ kept_claims : (old new : DeskParts) → (new ≡ old) ⊎ (old.claims ≡ new.cl
 kept_claims old new (inl same) = ap (λ (d : DeskParts). d.claims) same
 kept_claims old new (inr same) = sym same
 
--- the place that is told of an answer by the book
-place_told : (P : Stamp → Type 0) (answered : Answered) (place : Stamp) → answered ≡ At place
-    → OnAt answered P → P place
-place_told P answered place is told = let at : OnAt (At place) P =
-    subst (λ (x : Answered). OnAt x P) is told in at
-
 -- a whole request of a stream, by the book
 pub http_asked : (client : ℕ) (http : HttpRequest) (d : DeviceParts) (answered : Answered)
     (place : Stamp) (said : Said) (before response : List ℕ) (old new : Run) → client < CLIENTS
     → AreAll old.floors
     → d ≡ old.desk.setup.device → before ≡ [] → answered ≡ At place
-    → IsServed d http old.desk.setup client old.desk.journal new.desk.journal before response
-    answered → OnAt answered (λ at. at.claims ≡ old.desk.claims) → new.desk.setup ≡ old.desk.setup
-    → (new.desk ≡ old.desk) ⊎ (old.desk.claims ≡ new.desk.claims) → new.rows ≡ old.rows
+    → IsServed d http old.desk.setup client old.desk.journal new.desk.journal
+    (counts_claims old.desk.claims) before response answered → new.desk.setup ≡ old.desk.setup
+    → (new.desk ≡ old.desk) ⊎ (old.desk.claims ≡ new.desk.claims)
     → said ≡ Http response → IsShort said
     → new.replies ≡ old.replies ++ reply_item client place said ∷ []
     → length new.desk.journal < 256 ^ 8
     → new.floors.places.items ≡ slice_set old.floors.places.items client
     (stamp (length new.desk.journal) new.desk.claims) → new.setup ≡ old.setup
     → HasAsked client (Whole http) old new
-http_asked client http d answered place said before response old new lt all device none is served at
-    setup keeps rows said_is short told few floors own =
-    let by : IsServed d http old.desk.setup client old.desk.journal new.desk.journal before response
-    (At place) =
-    subst (IsServed d http old.desk.setup client old.desk.journal new.desk.journal before response)
-    is served in
+http_asked client http d answered place said before response old new lt all device none is served
+    setup keeps said_is short told few floors own =
+    let by : IsServed d http old.desk.setup client old.desk.journal new.desk.journal
+    (counts_claims old.desk.claims) before response (At place) =
+    subst (IsServed d http old.desk.setup client old.desk.journal new.desk.journal
+    (counts_claims old.desk.claims) before response) is served in
     let written = by.2 in
     let text : response ≡ response_of d http (Some written.reply) =
     written.written ∙ ap (λ (xs : List ℕ). xs ++ response_of d http (Some written.reply)) none in
@@ -326,10 +317,9 @@ http_asked client http d answered place said before response old new lt all devi
           (sym device) ∙ ap (λ (bytes : List ℕ). Some (Http bytes)) (sym text)
           ∙ ap Some (sym said_is);
       asked = written.asked;
-      at = place_told (λ at. at.claims ≡ old.desk.claims) answered place is at;
+      at = written.told;
       setup = setup;
       same = kept_claims old.desk new.desk keeps;
-      rows = rows;
       told = told;
       few = few;
       short = short;
@@ -346,18 +336,19 @@ pub http_fixed : (client : ℕ) (http : HttpRequest) (d : DeviceParts) (answered
     (floor : Stamp) (said : Said) (before response : List ℕ) (old new : Run) → client < CLIENTS
     → AreAll old.floors
     → d ≡ old.desk.setup.device → before ≡ [] → answered ≡ Still
-    → IsServed d http old.desk.setup client old.desk.journal new.desk.journal before response
-    answered → OnStill answered (new.desk ≡ old.desk) → new.rows ≡ old.rows
+    → IsServed d http old.desk.setup client old.desk.journal new.desk.journal
+    (counts_claims old.desk.claims) before response answered → OnStill answered (new.desk ≡ old.desk)
     → said ≡ Http response → IsShort said
     → floor ≡ floor_at old.floors client → floor.calls < 256 ^ 8
-    → new.replies ≡ old.replies ++ reply_item client floor said ∷ [] → new.floors ≡ old.floors → new.setup ≡ old.setup
+    → new.replies ≡ old.replies ++ reply_item client floor said ∷ []
+    → new.floors ≡ old.floors → new.setup ≡ old.setup
     → HasAsked client (Whole http) old new
 http_fixed client http d answered floor said before response old new lt all device none is served
-    desk rows said_is short floor_is few told floors own =
-    let by : IsServed d http old.desk.setup client old.desk.journal new.desk.journal before response
-    Still =
-    subst (IsServed d http old.desk.setup client old.desk.journal new.desk.journal before response)
-    is served in
+    desk said_is short floor_is few told floors own =
+    let by : IsServed d http old.desk.setup client old.desk.journal new.desk.journal
+    (counts_claims old.desk.claims) before response Still =
+    subst (IsServed d http old.desk.setup client old.desk.journal new.desk.journal
+    (counts_claims old.desk.claims) before response) is served in
     let text : response ≡ response_of d http None =
     by.2 ∙ ap (λ (xs : List ℕ). xs ++ response_of d http None) none in
     without_book client (Whole http) old new lt all (record {
@@ -366,7 +357,6 @@ http_fixed client http d answered floor said before response old new lt all devi
       says = ap (λ (x : DeviceParts). Some (Http (response_of x http None))) (sym device)
           ∙ ap (λ (bytes : List ℕ). Some (Http bytes)) (sym text) ∙ ap Some (sym said_is);
       desk = still_told (new.desk ≡ old.desk) answered is desk;
-      rows = rows;
       told = told ∙ ap (λ (place : Stamp). old.replies ++ reply_item client place said ∷ [])
           floor_is;
       few = subst (λ (place : Stamp). place.calls < 256 ^ 8) floor_is few;
@@ -378,19 +368,18 @@ http_fixed client http d answered floor said before response old new lt all devi
 -- a stream that is refused
 pub refused_fixed : (client status : ℕ) (floor : Stamp) (said : Said) (response : List ℕ)
     (old new : Run) → client < CLIENTS → AreAll old.floors → response ≡ stream_response status
-    → new.desk ≡ old.desk → new.rows ≡ old.rows
+    → new.desk ≡ old.desk
     → said ≡ Http response → IsShort said → floor ≡ floor_at old.floors client
     → floor.calls < 256 ^ 8 → new.replies ≡ old.replies ++ reply_item client floor said ∷ []
     → new.floors ≡ old.floors → new.setup ≡ old.setup
     → HasAsked client (Refused status) old new
-refused_fixed client status floor said response old new lt all text desk rows said_is short
+refused_fixed client status floor said response old new lt all text desk said_is short
     floor_is few told floors own =
     without_book client (Refused status) old new lt all (record {
       said = said;
       asks = refl;
       says = ap (λ (bytes : List ℕ). Some (Http bytes)) (sym text) ∙ ap Some (sym said_is);
       desk = desk;
-      rows = rows;
       told = told ∙ ap (λ (place : Stamp). old.replies ++ reply_item client place said ∷ [])
           floor_is;
       few = subst (λ (place : Stamp). place.calls < 256 ^ 8) floor_is few;

@@ -1,6 +1,6 @@
 -- The text that is put together piece by piece is the result of the serial history.
-use Rattle.std.proofs.Common.{◌≡◌, ℕ, ◌+◌, ◌<◌, List, [], ◌++◌, get_or, map, sym, ap, zero-add, ◌∙◌}
-use Rattle.std.proofs.Common.{arith, Option, refl, length}
+use Rattle.std.proofs.Common.{◌≡◌, ℕ, ◌+◌, ◌<◌, List, [], ◌++◌, get_or, map, sym, ap, subst, zero-add, ◌∙◌}
+use Rattle.std.proofs.Common.{arith, Option, refl}
 use Rattle.std.specs.List.{flat_map, range_with_len}
 use Rattle.std.proofs.lemmas.List.FromFn.{get_or-map-range_with_len}
 use Rattle.std.specs.Io.KnownBytes.{Appends}
@@ -18,18 +18,16 @@ use Rattle.book_words.specs.declared.history.ReplyItem.{ReplyItem}
 use Rattle.book_words.specs.History.{history_of}
 use Rattle.plain_book.specs.Journal.{entries_of}
 use Rattle.serial_player.specs.Written.{record_behind, text_by, IsPrepared, IsWritten}
-use Rattle.serial_player.specs.Written.{IsWrittenInPart, IsResultOf}
-use Rattle.serial_player.specs.Table.{BlockTable, HasTick}
-use Rattle.serial_player.specs.Claim.{HaveRows, claim_by}
+use Rattle.serial_player.specs.Written.{IsWrittenInPart, IsResultOf, TakesText, TakesTextInPart}
+use Rattle.serial_player.specs.Claim.{claim_by}
+use Rattle.serial_player.specs.Made.{all_made_by}
+use Rattle.serial_player.specs.declared.claims.AllClaims.{AllClaims}
 use Rattle.serial_player.specs.declared.writing.Prepared.{Prepared}
 use Rattle.serial_player.specs.Serial.{blocks_of, packets_in}
 use Rattle.serial_player.proofs.Beginning.{closed_keeps}
 use Rattle.serial_player.specs.HistoryParts.{history_by_parts}
-use Rattle.serial_player.proofs.History.{all_made}
-use Rattle.packet_writer.specs.Packet.{Blocks}
-use Rattle.map_entry.specs.declared.cell.Cell.{Cell}
-use Rattle.map_entry.specs.declared.entry.Entry.{Entry}
-use Rattle.chan_io.specs.Streams.{TakesPrefix, TellsAlike}
+use Rattle.serial_player.proofs.History.{all_made, same_setup}
+use Rattle.chan_io.specs.Streams.{TakesPrefix}
 
 pub text_is : (d : DeviceParts) (claim_of : ℕ → ClaimItem) (n : ℕ) (calls : List JournalCall)
     (replies : List ReplyItem) (between : List (List ℕ)) → ((k : ℕ) → (claim_of k).k ≡ k)
@@ -60,20 +58,20 @@ prepared_text c journal between n =
 
 -- it is the result of the serial history
 serial_text : (c : CaptureParts) (p : Prepared) → IsPrepared c p
-    → prepared_text c p.parts.journal p.between (length p.parts.rows)
+    → prepared_text c p.parts.journal p.between p.parts.claims
     ≡ result_text c.setup.device (history_by_parts c p.parts)
 serial_text c p is =
     let journal = p.parts.journal in
     let claims = claim_by c.setup (entries_of c.setup journal) (blocks_of c) in
-    ap (text_by p.between claims) is.parts_are.rows.long
+    ap (text_by p.between claims) is.parts_are.claims
     ∙ text_is c.setup.device claims (packets_in c) journal p.parts.replies p.between
     (λ k. refl) is.between
 
--- so is the text of its rows, its table and what stands between its claims
-result_is : (c : CaptureParts) (p : Prepared) (rows : List (List Cell)) (between : List (List ℕ))
-    → IsCapture c → IsPrepared c p → rows ≡ p.parts.rows → between ≡ p.between
-    → IsResultOf c (prepared_text c p.parts.journal between (length rows))
-result_is c p rows between capture is rows_same between_same =
+-- so is the text of its claims and of what stands between them
+result_is : (c : CaptureParts) (p : Prepared) (count : ℕ) (between : List (List ℕ))
+    → IsCapture c → IsPrepared c p → count ≡ p.parts.claims → between ≡ p.between
+    → IsResultOf c (prepared_text c p.parts.journal between count)
+result_is c p count between capture is count_same between_same =
     let journal = p.parts.journal in
     let history = history_by_parts c p.parts in
     let serial = is.parts_are.serial in
@@ -83,46 +81,52 @@ result_is c p rows between capture is rows_same between_same =
       begun = closed_keeps c serial.turns history capture.setup serial.legal;
       fits = is.fits;
       shows = shows_all history is.fits.whole;
-      written = ap (λ (n : ℕ). prepared_text c journal between n) (ap length rows_same)
-          ∙ ap (λ (b : List (List ℕ)). prepared_text c journal b (length p.parts.rows))
-          between_same
+      written = ap (prepared_text c journal between) count_same
+          ∙ ap (λ (b : List (List ℕ)). prepared_text c journal b p.parts.claims) between_same
           ∙ serial_text c p is;
     }
 
+-- the text of the claims is that of what was prepared
+claims_text : (c : CaptureParts) (p : Prepared) (claims : AllClaims) (between : List (List ℕ))
+    → claims.setup.now ≡ c.setup
+    → text_by between
+    (all_made_by claims (entries_of c.setup p.parts.journal) (blocks_of c)) claims.count
+    ≡ prepared_text c p.parts.journal between claims.count
+claims_text c p claims between setup =
+    ap (λ (claim : ℕ → ClaimItem). text_by between claim claims.count)
+    (same_setup c claims (entries_of c.setup p.parts.journal) (blocks_of c) setup)
+
 -- a sink took all of it
-pub written_is : (c : CaptureParts) (p : Prepared) (rows : List (List Cell)) (table : BlockTable)
-    (between : List (List ℕ)) (old new : Option (List ℕ)) → IsCapture c → IsPrepared c p
-    → rows ≡ p.parts.rows → table ≡ p.parts.table → between ≡ p.between
-    → ((entries : List Entry) (blocks : Blocks) → HaveRows c.setup entries 0 rows
-    × ((k : ℕ) → k < length rows → HasTick c.setup table blocks k)
-    → TellsAlike old new
-    × Appends old new (text_by between (claim_by c.setup entries blocks) (length rows)))
+pub written_is : (c : CaptureParts) (p : Prepared) (claims : AllClaims) (between : List (List ℕ))
+    (old new : Option (List ℕ)) → IsCapture c → IsPrepared c p → claims.setup.now ≡ c.setup
+    → claims.count ≡ p.parts.claims → claims.entries.now ≡ p.parts.entries
+    → claims.table.now ≡ p.parts.table → between ≡ p.between → TakesText claims between old new
     → IsWritten c old new
-written_is c p rows table between old new capture is rows_same table_same between_same took =
+written_is c p claims between old new capture is setup count entries table between_same took =
     let journal = p.parts.journal in
     let told =
     took (entries_of c.setup journal) (blocks_of c)
-    (all_made c p.parts rows table capture is.parts_are rows_same table_same) in
+    (all_made c p.parts claims capture is.parts_are setup count entries table) in
     record {
-      text = prepared_text c journal between (length rows);
-      result = result_is c p rows between capture is rows_same between_same;
+      text = prepared_text c journal between claims.count;
+      result = result_is c p claims.count between capture is count between_same;
       alike = told.0;
-      took = told.1;
+      took = subst (Appends old new) (claims_text c p claims between setup) told.1;
     }
 
 -- or a front of it
-pub cut_short_is : (c : CaptureParts) (p : Prepared) (rows : List (List Cell)) (table : BlockTable)
+pub cut_short_is : (c : CaptureParts) (p : Prepared) (claims : AllClaims)
     (between : List (List ℕ)) (old new : Option (List ℕ)) → IsCapture c → IsPrepared c p
-    → rows ≡ p.parts.rows → table ≡ p.parts.table → between ≡ p.between
-    → ((entries : List Entry) (blocks : Blocks) → HaveRows c.setup entries 0 rows
-    × ((k : ℕ) → k < length rows → HasTick c.setup table blocks k)
-    → TakesPrefix old new (text_by between (claim_by c.setup entries blocks) (length rows)))
+    → claims.setup.now ≡ c.setup → claims.count ≡ p.parts.claims
+    → claims.entries.now ≡ p.parts.entries → claims.table.now ≡ p.parts.table
+    → between ≡ p.between → TakesTextInPart claims between old new
     → IsWrittenInPart c old new
-cut_short_is c p rows table between old new capture is rows_same table_same between_same took =
+cut_short_is c p claims between old new capture is setup count entries table between_same took =
     let journal = p.parts.journal in
     record {
-      text = prepared_text c journal between (length rows);
-      result = result_is c p rows between capture is rows_same between_same;
-      took = took (entries_of c.setup journal) (blocks_of c)
-          (all_made c p.parts rows table capture is.parts_are rows_same table_same);
+      text = prepared_text c journal between claims.count;
+      result = result_is c p claims.count between capture is count between_same;
+      took = subst (TakesPrefix old new) (claims_text c p claims between setup)
+          (took (entries_of c.setup journal) (blocks_of c)
+          (all_made c p.parts claims capture is.parts_are setup count entries table));
     }

@@ -1,32 +1,18 @@
 -- A claim of a table is that of the blocks which the table has at its tick.
-use Rattle.std.proofs.Common.{◌≡◌, ℕ, ◌<◌, Bool, true, false, true≢false, List, [], length, ℤ}
-use Rattle.std.proofs.Common.{Option, Some, None, sym, ap, ◌∙◌}
+use Rattle.std.proofs.Common.{◌≡◌, ℕ, ◌<◌, Bool, true, false, true≢false, List, length, ℤ}
+use Rattle.std.proofs.Common.{Option, Some, None, ap, ◌∙◌}
 use Rattle.std.specs.Prelude.{◌&&◌, if◌then◌else◌, is_some, IfNone}
 use Rattle.io_caps.specs.declared.device.DeviceParts.{DeviceParts}
 use Rattle.map_entry.specs.Row.{channels_of}
-use Rattle.std.specs.Option.{unwrap_or}
-use Rattle.map_entry.specs.Entry.{selected}
 use Rattle.map_entry.specs.Setup.{SetupParts}
-use Rattle.map_entry.specs.declared.cell.Cell.{Cell}
 use Rattle.map_entry.specs.declared.entry.Entry.{Entry}
-use Rattle.packet_writer.specs.Flags.{AreClosed, IsFound, is_named, names_by}
+use Rattle.packet_writer.specs.Flags.{AreClosed, IsFound, names_by}
 use Rattle.packet_writer.specs.Heard.{HasFrames, HaveFrames, TickBlocks}
-use Rattle.packet_writer.specs.Packet.{Blocks, claim_rows, flag_of, output_of_claim, packet_by}
-use Rattle.packet_writer.specs.Packet.{tick_of_claim}
+use Rattle.packet_writer.specs.Packet.{Blocks, flag_of, packet_by}
 use Rattle.packet_writer.proofs.ClaimLaws.{closed_flags-only}
-use Rattle.packet_writer.proofs.PacketLaws.{is_named-same}
-use Rattle.serial_player.specs.Claim.{HasRow, claim_by}
+use Rattle.serial_player.specs.Claim.{claim_by}
 use Rattle.serial_player.specs.Table.{BlockTable, HasTick, IsTable, found_placed, place_of_claim}
 use Rattle.serial_player.specs.Table.{placed}
-
--- the row that is selected rules all frames
-pub rows_are : (s : SetupParts) (entries : List Entry) (k output tick : ℕ) (row : List Cell)
-    → selected entries output tick ≡ Some row → output ≡ output_of_claim s k
-    → tick ≡ tick_of_claim s k → HasRow s entries k row
-rows_are s entries k output tick row is out at frame =
-    ap (λ (r : Option (List Cell)). unwrap_or r [])
-    (ap (λ (t : ℕ). selected entries (output_of_claim s k) t) (sym at)
-    ∙ ap (λ (o : ℕ). selected entries o tick) (sym out) ∙ is)
 
 -- a flag by what was marked and what a look saw
 pub flag_is : (named there flag marked : Bool) → marked ≡ named → (marked ≡ true → flag ≡ there)
@@ -39,21 +25,19 @@ pub when_none : {A P : Type 0} (x : Option A) → is_some x ≡ false → IfNone
 when_none None none own = own
 when_none (Some a) none own = absurd (true≢false none)
 
--- flags by the row and the table
-pub flags_closed : (s : SetupParts) (entries : List Entry) (blocks : Blocks) (table : BlockTable)
-    (k : ℕ) (row : List Cell) (found : List Bool)
-    → HasRow s entries k row → HasTick s table blocks k → length found ≡ length s.device.inputs
+-- flags by the rows and the table
+pub flags_closed : (s : SetupParts) (own entries : List Entry) (blocks : Blocks)
+    (table : BlockTable) (k : ℕ) (found : List Bool)
+    → own ≡ entries → HasTick s table blocks k → length found ≡ length s.device.inputs
     → ((i : ℕ) → i < length s.device.inputs
-    → flag_of found i ≡ (is_named s.device.rate.frames (λ f. row) i
-    && is_some (placed table (place_of_claim s k) i)))
+    → flag_of found i ≡ (names_by s own k i && is_some (placed table (place_of_claim s k) i)))
     → AreClosed s entries blocks k found
-flags_closed s entries blocks table k row found rows has long each = record {
+flags_closed s own entries blocks table k found same has long each = record {
   long = long;
   each = λ i there.
       each i there
-      ∙ ap (λ (named : Bool). named && is_some (placed table (place_of_claim s k) i))
-      (is_named-same s.device.rate.frames (λ f. row) (claim_rows s entries k)
-      (λ f lt. sym (rows f)) i)
+      ∙ ap (λ (es : List Entry). names_by s es k i && is_some (placed table (place_of_claim s k) i))
+      same
       ∙ ap (λ (block : Option (List ℤ)). names_by s entries k i && is_some block) (has i);
 }
 

@@ -1,13 +1,12 @@
 -- Claims before they are made, and what is made of them. (This project's own.)
-use Rattle.std.specs.Prelude.{ℕ, ◌<◌, List, length, ◌≤◌, Bool, map, ◌≡◌}
+use Rattle.std.specs.Prelude.{ℕ, ◌<◌, List, ◌≤◌, Bool, map, ◌≡◌}
 use Rattle.std.specs.List.{range_with_len}
 use Rattle.map_entry.specs.declared.entry.Entry.{Entry}
-use Rattle.map_entry.specs.Row.{channels_of_output}
-use Rattle.packet_writer.specs.Packet.{Blocks, packet_by, output_of_claim, packet_length, RowFits}
+use Rattle.packet_writer.specs.Packet.{Blocks, packet_by, output_of_claim, packet_length}
 use Rattle.packet_writer.specs.Flags.{AreClosed}
 use Rattle.book_words.specs.declared.history.ClaimItem.{ClaimItem}
 use Rattle.book_words.specs.History.{claim_item}
-use Rattle.serial_player.specs.Claim.{HasRow, HaveRows, claim_by, RowsFitClaims}
+use Rattle.serial_player.specs.Claim.{FitsOutput, claim_by}
 use Rattle.serial_player.specs.Table.{HasTick, IsTable}
 use Rattle.serial_player.specs.declared.claims.AllClaims.{AllClaims}
 use Rattle.serial_player.specs.declared.claims.OneClaim.{OneClaim}
@@ -17,18 +16,17 @@ use Rattle.capture_file.specs.Parts.{claim_bytes}
 
 -- ---- one claim
 
--- a claim can be made: its row and the table fit the device
+-- a claim can be made: the rows of its frames and the table fit the device
 pub record IsReady (c : OneClaim) : Type 0 where
   pub claim : c.k < TICKS_PAST_BASE
   pub device : IsDevice c.setup.now.device
-  pub row : RowFits c.setup.now.device.inputs
-      (channels_of_output c.setup.now.device (output_of_claim c.setup.now c.k)) c.row.now
+  pub rows : FitsOutput c.setup.now c.entries.now c.k
   pub table : IsTable c.setup.now.device c.table.now
 
--- a claim's row is the one that a list of entries selects, and these are the blocks of its tick
+-- a claim's entries are these, and these are the blocks of its tick
 abbrev pub IsBy : OneClaim → List Entry → Blocks → Type 0
 IsBy c entries blocks =
-    HasRow c.setup.now entries c.k c.row.now × HasTick c.setup.now c.table.now blocks c.k
+    (c.entries.now ≡ entries) × HasTick c.setup.now c.table.now blocks c.k
 
 -- a claim by a list of entries and over blocks
 abbrev pub made_by : OneClaim → List Entry → Blocks → ClaimItem
@@ -72,19 +70,18 @@ IsRecordOf c found bytes =
 
 -- ---- the first claims
 
--- the first claims can be made: their rows and the table fit the device
+-- the first claims can be made: the rows of their frames and the table fit the device
 pub record AreReady (c : AllClaims) : Type 0 where
-  pub claims : length c.rows.now ≤ TICKS_PAST_BASE
+  pub claims : c.count ≤ TICKS_PAST_BASE
   pub device : IsDevice c.setup.now.device
-  pub rows : RowsFitClaims c.setup.now 0 c.rows.now
+  pub rows : (k : ℕ) → k < c.count → FitsOutput c.setup.now c.entries.now k
   pub table : IsTable c.setup.now.device c.table.now
 
--- the rows of the first claims are those that a list of entries selects, and these are the blocks
--- of their ticks
+-- the entries of the first claims are these, and these are the blocks of their ticks
 abbrev pub AreBy : AllClaims → List Entry → Blocks → Type 0
 AreBy c entries blocks =
-    HaveRows c.setup.now entries 0 c.rows.now
-    × ((k : ℕ) → k < length c.rows.now → HasTick c.setup.now c.table.now blocks k)
+    (c.entries.now ≡ entries)
+    × ((k : ℕ) → k < c.count → HasTick c.setup.now c.table.now blocks k)
 
 -- each of the first claims by a list of entries and over blocks
 abbrev pub all_made_by : AllClaims → List Entry → Blocks → ℕ → ClaimItem
@@ -94,7 +91,7 @@ all_made_by c entries blocks = claim_by c.setup.now entries blocks
 abbrev pub AreClaimsOf : AllClaims → List ClaimItem → Type 0
 AreClaimsOf c made =
     (entries : List Entry) (blocks : Blocks) → AreBy c entries blocks
-    → made ≡ map (all_made_by c entries blocks) (range_with_len 0 (length c.rows.now))
+    → made ≡ map (all_made_by c entries blocks) (range_with_len 0 c.count)
 
 -- This is claim k of the first claims: it can be made, it is by what they all are by, and it is the
 -- one of its number.

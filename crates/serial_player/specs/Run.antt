@@ -1,20 +1,18 @@
 -- What a run over the book has made so far. (This project's own.)
-use Rattle.std.specs.Prelude.{◌≡◌, ℕ, ◌+◌, ◌*◌, ◌^◌, ◌<◌, ◌≤◌, List, length, map, slice_index_or}
-use Rattle.std.specs.Int.{div_ceil}
-use Rattle.std.specs.List.{AllByRecursion, range_with_len}
+use Rattle.std.specs.Prelude.{◌≡◌, ℕ, ◌+◌, ◌^◌, ◌<◌, ◌≤◌, length, slice_index_or}
+use Rattle.std.specs.List.{AllByRecursion}
 use Rattle.io_caps.specs.declared.limits.TheConstants.{CLIENTS, TICKS_PAST_BASE}
 use Rattle.map_entry.specs.Setup.{IsSetup, SetupParts}
-use Rattle.map_entry.specs.declared.cell.Cell.{Cell}
 use Rattle.plain_book.specs.Legal.{IsLegalJournal}
 use Rattle.book_words.specs.declared.history.ReplyItem.{ReplyItem}
 use Rattle.book_words.specs.declared.history.Said.{Said}
 use Rattle.book_words.specs.declared.history.Said.TheVariants.{Plain, Http}
+use Rattle.book_words.specs.declared.replies.Reply.{Reply}
+use Rattle.book_words.specs.declared.requests.Request.{Request}
 use Rattle.book_words.specs.declared.requests.Stamp.{Stamp}
-use Rattle.book_words.specs.declared.calls.JournalCall.{JournalCall}
-use Rattle.plain_book.specs.Journal.{entries_of, row_from}
+use Rattle.plain_book.specs.Journal.{entries_of}
 use Rattle.interleavings.specs.Legal.{first_floor}
 use Rattle.interleavings.specs.Serial.{SerialParts, serial_parts}
-use Rattle.serial_player.specs.Claim.{AreRuling}
 use Rattle.serial_player.specs.Serial.{IsStepThere, Played, claims_by, floor_of, play_step}
 use Rattle.serial_player.specs.declared.asks.ClientAsk.{ClientAsk}
 use Rattle.serial_player.specs.declared.asks.Step.{Step}
@@ -27,17 +25,7 @@ use Rattle.serial_player.specs.declared.run.RunParts.{RunParts}
 abbrev pub parts_of : Run → SerialParts
 parts_of run = serial_parts run.desk.claims run.desk.journal run.replies
 
--- ---- claims
-
--- how many claims are those of the ticks that have begun after a number of claims
-abbrev pub begun : ℕ → ℕ → ℕ
-begun outputs claims = div_ceil claims outputs * outputs
-
--- the rows of the outputs in the first tick that has not begun, by the calls so far
-abbrev pub next_rows : SetupParts → List JournalCall → ℕ → List (List Cell)
-next_rows s journal claims =
-    map (λ output. row_from s (entries_of s journal) output claims)
-    (range_with_len 0 (length s.device.outputs))
+-- ---- a run
 
 -- a record of a result holds what is said: a response with the 18 bytes before it is shorter than
 -- 2^32
@@ -53,16 +41,13 @@ IsWritable r = (r.stamp.calls < 256 ^ 8) × IsShort r.said
 abbrev pub AreAll : Floors → Type 0
 AreAll floors = length floors.places.items ≡ CLIENTS
 
--- The calls are a legal journal, and a row is kept for each claim of all ticks that have begun,
--- which rules it by the calls so far. The calls of each reply's place fit 8 bytes, and each
--- response a record.
+-- The calls are a legal journal. The calls of each reply's place fit 8 bytes, and each response a
+-- record.
 pub record IsRun (s : SetupParts) (run : Run) : Type 0 where
   pub own : run.setup ≡ s
   pub setup : run.desk.setup ≡ s
   pub checked : IsSetup s
   pub legal : IsLegalJournal s run.desk.claims run.desk.journal
-  pub rows : AreRuling s (entries_of s run.desk.journal)
-      (begun (length s.device.outputs) run.desk.claims) run.rows
   pub held : AllByRecursion IsWritable run.replies
   pub floors : AreAll run.floors
 
@@ -87,10 +72,12 @@ pub record IsRunOf (s : SetupParts) (p : Played) (run : Run) : Type 0 where
   pub kept : IsRun s run
   pub played : HasPlayed p run
 
--- This is left of a run that has played this.
+-- This is left of a run that has played this: its calls are few enough for the 8 bytes of an id.
 pub record AreLeft (s : SetupParts) (p : Played) (parts : RunParts) : Type 0 where
-  pub rows : AreRuling s (entries_of s p.journal) (begun (length s.device.outputs) p.claims)
-      parts.rows
+  pub legal : IsLegalJournal s p.claims p.journal
+  pub few : length p.journal < 2 ^ 63
+  pub claims : parts.claims ≡ p.claims
+  pub entries : parts.entries ≡ entries_of s p.journal
   pub journal : parts.journal ≡ p.journal
   pub replies : parts.replies ≡ p.told
   pub held : AllByRecursion IsWritable p.told
@@ -110,6 +97,10 @@ StepsOn old step new =
 -- what a run was stays so
 abbrev pub KeepsRun : Run → Run → Type 0
 KeepsRun old new = (s : SetupParts) → IsRun s old → IsRun s new
+
+-- what the book tells of an answer at a number of claims: its place counts these
+abbrev pub counts_claims : ℕ → Request → Reply → Stamp → Type 0
+counts_claims claims request reply place = place.claims ≡ claims
 
 -- an ask of a client was answered
 pub record HasAsked (client : ℕ) (ask : ClientAsk) (old new : Run) : Type 0 where

@@ -49,7 +49,7 @@ SendsClaim c old old_waiting new new_waiting =
 abbrev pub records_of_all : AllClaims → List (List ℕ) → List Entry → Blocks → List ℕ
 records_of_all c between entries blocks =
     flat_map (record_behind between (all_made_by c entries blocks))
-    (range_with_len 0 (length c.rows.now))
+    (range_with_len 0 c.count)
 
 -- the records of the first claims go on to a sink, with what stands between them
 abbrev pub SendsClaims : AllClaims → List (List ℕ) → Option (List ℕ) → List ℕ → Option (List ℕ)
@@ -70,21 +70,21 @@ abbrev pub TakesText : AllClaims → List (List ℕ) → Option (List ℕ) → O
 TakesText c between old new =
     (entries : List Entry) (blocks : Blocks) → AreBy c entries blocks
     → TellsAlike old new
-    × Appends old new (text_by between (all_made_by c entries blocks) (length c.rows.now))
+    × Appends old new (text_by between (all_made_by c entries blocks) c.count)
 
 -- a sink took a front of the text of a result
 abbrev pub TakesTextInPart : AllClaims → List (List ℕ) → Option (List ℕ) → Option (List ℕ)
     → Type 0
 TakesTextInPart c between old new =
     (entries : List Entry) (blocks : Blocks) → AreBy c entries blocks
-    → TakesPrefix old new (text_by between (all_made_by c entries blocks) (length c.rows.now))
+    → TakesPrefix old new (text_by between (all_made_by c entries blocks) c.count)
 
 -- The first claims can be given to a sink: they can be made, there is what stands between them and
 -- after the last one, a flag for each input, and a buffer of `BUFFER_LEN` bytes.
 pub record CanBePut (c : AllClaims) (between : List (List ℕ)) (found : List Bool) (out : Outgoing)
     : Type 0 where
   pub ready : AreReady c
-  pub between_all : length c.rows.now < length between
+  pub between_all : c.count < length between
   pub flags : length found ≡ length c.setup.now.device.inputs
   pub size : length out.buffer.items ≡ BUFFER_LEN
 

@@ -1,12 +1,12 @@
 //! How a run answers asks: plain requests, and what the HTTP streams of clients ask.
 
 ghost use Rattle.std.specs.Prelude.{◌≡◌, ◌<◌, ◌^◌, ◌⊎◌, IfOk, OnOk, length};
-ghost use Rattle.api_routes.specs.Answer.{IsServed, OnAt, OnStill};
+ghost use Rattle.api_routes.specs.Answer.{IsServed, OnStill};
 ghost use Rattle.http_wire.specs.Response.{IsStatus};
 ghost use Rattle.io_caps.specs.declared.limits.TheConstants.{CLIENTS};
 ghost use Rattle.book_words.specs.History.{stamp};
 ghost use Rattle.book_words.specs.declared.history.Said.TheVariants.{Http};
-ghost use Rattle.serial_player.specs.Run.{HasAsked, IsRun, IsShort};
+ghost use Rattle.serial_player.specs.Run.{HasAsked, IsRun, IsShort, counts_claims};
 ghost use Rattle.serial_player.specs.declared.asks.ClientAsk.TheVariants.{Asked, Refused, Whole};
 
 use crate::run::Run;
@@ -55,10 +55,9 @@ fn serve_over(
     out: &mut Vec<u8>,
 ) -> Result<Answered, NoMemory>
     ensures served { IfOk result (IsServed setup.now.device http.now desk.old.setup client
-        desk.old.journal desk.new.journal out.old.items out.new.items) }
+        desk.old.journal desk.new.journal (counts_claims desk.old.claims) out.old.items
+        out.new.items) }
     ensures still { IfOk result (λ answered. OnStill answered (desk.new ≡ desk.old)) }
-    ensures claims { IfOk result (λ answered. OnAt answered
-        (λ stamp. stamp.claims ≡ desk.old.claims)) }
     ensures setup { desk.new.setup ≡ desk.old.setup }
     ensures keeps { (desk.new ≡ desk.old) ⊎ (desk.old.claims ≡ desk.new.claims) }
 {

@@ -1,6 +1,7 @@
 //! The claims of a history.
 
-ghost use Rattle.std.specs.Prelude.{◌≡◌, ◌<◌, ◌+◌, IfOk, length};
+ghost use Rattle.std.specs.Prelude.{◌≡◌, ◌<◌, ◌+◌, ℕ, IfOk, length};
+ghost use Rattle.packet_writer.specs.Packet.{claim_rows};
 ghost use Rattle.serial_player.specs.Made.{AreClaimsOf, AreFlagsOf, AreReady, IsClaimOf, IsOneOf};
 ghost use Rattle.serial_player.specs.Made.{IsPacketOf, IsReady, IsRecordOf, packet_length_of};
 ghost use Rattle.serial_player.specs.Table.{place_of_claim};
@@ -9,26 +10,29 @@ use crate::blocks::{FoundOf, TickOf};
 use block_builder::Blocks;
 use capture_file::{CLAIM_HEAD_LEN, write_claim_front};
 use io_caps::{Bytes, Flags, NoMemory};
-use map_entry::{Cell, Row, Setup, claim_output};
-use packet_writer::{OneRow, look_at_marked, mark_named, packet_len, write_claim};
+use map_entry::{Entry, Setup, claim_output, claim_tick};
+use packet_writer::{EntryRows, FrameRows, look_at_marked, mark_named, packet_len, write_claim};
 use plain_book::{ClaimItem, ClaimItems};
 use std::alloc::Global;
 
-/// A claim before it is made: its number, the row that rules it, and the blocks of all packets. Its
-/// flags are no part of it: they are given, or chosen as those of all blocks that its packet finds.
+/// A claim before it is made: its number, the map entries of the base rows and of all calls, and
+/// the blocks of all packets. Its flags are no part of it: they are given, or chosen as those of
+/// all blocks that its packet finds.
 #[derive(Drop)]
 pub struct OneClaim<'a> {
     pub setup: &'a Setup,
-    pub row: &'a [Cell],
+    pub entries: &'a [Entry],
     pub table: &'a [Blocks],
     pub k: u64,
 }
 
-/// The first claims before they are made: the row that rules each, and the blocks of all packets.
+/// The first claims before they are made: how many they are, the map entries of the base rows and
+/// of all calls, and the blocks of all packets.
 #[derive(Drop)]
 pub(crate) struct AllClaims<'a> {
     pub(crate) setup: &'a Setup,
-    pub(crate) rows: &'a [Row],
+    pub(crate) count: usize,
+    pub(crate) entries: &'a [Entry],
     pub(crate) table: &'a [Blocks],
 }
 
@@ -36,12 +40,12 @@ impl<'a> AllClaims<'a> {
     /// The claim of a number.
     pub(crate) fn claim(&self, k: usize) -> OneClaim<'a>
         requires ready { AreReady self.now }
-        requires there { k < length self.now.rows.now }
+        requires there { k < self.now.count }
         ensures { IsOneOf self.now k result }
     {
         OneClaim {
             setup: self.setup,
-            row: self.rows[k].as_slice(),
+            entries: self.entries,
             table: self.table,
             k: k as u64,
         }
@@ -53,7 +57,7 @@ impl<'a> AllClaims<'a> {
         ensures { IfOk result (AreClaimsOf self.now) }
     {
         let mut made = ClaimItems::new(alloc);
-        for k in 0..self.rows.len() {
+        for k in 0..self.count {
             made.push(self.claim(k).make(alloc)?)?;
         }
         Ok(made)
@@ -69,6 +73,19 @@ impl<'a> OneClaim<'a> {
         (self.k / u64::from(setup.device.outputs())) as usize
     }
 
+    /// The rows that rule the frames of its packet.
+    fn rows(&self) -> EntryRows<'a>
+        requires { IsReady self.now }
+        ensures { (frame : ℕ) → ⟦<EntryRows<'static> as FrameRows>⟧.row_of result frame
+            ≡ claim_rows self.now.setup.now self.now.entries.now self.now.k frame }
+    {
+        let setup = self.setup;
+        let device = &setup.device;
+        let output = claim_output(device.outputs(), self.k);
+        let tick = claim_tick(device.base(), device.outputs(), self.k);
+        EntryRows::new(self.entries, output, tick)
+    }
+
     /// How many bytes its packet has.
     pub fn packet_len(&self) -> usize
         requires { IsReady self.now }
@@ -79,15 +96,16 @@ impl<'a> OneClaim<'a> {
         packet_len(&setup.device, output)
     }
 
-    /// Sets the flag of each input whose block its packet finds: its row names the input, and the
-    /// block is there.
+    /// Sets the flag of each input whose block its packet finds: one of its rows names the input,
+    /// and the block is there.
     pub fn set_found(&self, found: &mut [bool])
-        requires { length found.old ≡ length self.now.setup.now.device.inputs }
+        requires ready { IsReady self.now }
+        requires found { length found.old ≡ length self.now.setup.now.device.inputs }
         ensures len { length found.new ≡ length found.old }
         ensures flags { AreFlagsOf self.now found.new }
     {
         let setup = self.setup;
-        mark_named(&OneRow::new(self.row), setup.device.rate().frames, found);
+        mark_named(&self.rows(), setup.device.rate().frames, found);
         let untold = look_at_marked(&mut TickOf::new(self.table, self.place()), found);
         // A look at a block in memory always tells.
         prove!(untold.is_none());
@@ -95,6 +113,7 @@ impl<'a> OneClaim<'a> {
 
     /// Of which inputs its packet finds a block.
     fn flags(&self, alloc: Global) -> Result<Flags, NoMemory>
+        requires { IsReady self.now }
         ensures { IfOk result (AreFlagsOf self.now) }
     {
         let setup = self.setup;
@@ -112,7 +131,7 @@ impl<'a> OneClaim<'a> {
         write_claim(
             &mut FoundOf::new(self.table, self.place(), found),
             self.setup,
-            &OneRow::new(self.row),
+            &self.rows(),
             self.k,
             out,
         );

@@ -9,6 +9,7 @@ ghost use Rattle.chan_io.specs.Streams.{TakesOn};
 ghost use Rattle.capture_file.specs.Capture.{IsCapture, capture_of};
 ghost use Rattle.capture_file.specs.Items.{item};
 ghost use Rattle.capture_file.specs.Walk.{IfFault, IfNoMemory};
+ghost use Rattle.map_entry.specs.declared.grain.Grain.TheVariants.{Tick};
 ghost use Rattle.serial_player.specs.Made.{IsReady, IsRecordOf, packet_length_of};
 ghost use Rattle.serial_player.specs.Written.{CanBePut, IsPrepared, IsWritten, IsWrittenInPart};
 ghost use Rattle.serial_player.specs.Written.{SendsClaim, SendsClaims, TakesClaims, TakesText};
@@ -82,7 +83,7 @@ fn put_claims<K: Sink>(
     ensures prefix { TakesClaims claims.now between.now (K.taken sink.old)
         (waiting_bytes out.old) (K.taken sink.new) }
 {
-    for k in 0..claims.rows.len() {
+    for k in 0..claims.count {
         out.put(sink, between[k].as_slice())?;
         put_claim(&claims.claim(k), found, out, sink)?;
     }
@@ -108,7 +109,7 @@ fn put_result<K: Sink>(
 {
     out.put(sink, RESULT_MAGIC)?;
     put_claims(claims, between, found, out, sink)?;
-    out.put(sink, between[claims.rows.len()].as_slice())?;
+    out.put(sink, between[claims.count].as_slice())?;
     out.put(sink, &end_record())?;
     out.flush(sink)
 }
@@ -127,6 +128,7 @@ pub(crate) struct Prepared {
 fn prepare(alloc: Global, setup: &Setup, items: &[Item], ticks: u64) -> Result<Prepared, NoMemory>
     requires capture { IsCapture (capture_of setup.now items.now ticks) }
     requires fits { All item.Fits items.now }
+    requires grain { setup.now.grain ≡ Tick }
     ensures { IfOk result (IsPrepared (capture_of setup.now items.now ticks)) }
 {
     let parts = make_parts(alloc, setup, items, ticks)?;
@@ -134,7 +136,7 @@ fn prepare(alloc: Global, setup: &Setup, items: &[Item], ticks: u64) -> Result<P
         alloc,
         parts.journal.as_slice(),
         parts.replies.as_slice(),
-        parts.rows.len() as u64 + 1,
+        parts.claims + 1,
     )?;
     Ok(Prepared {
         parts,
@@ -154,6 +156,7 @@ fn write_items<K: Sink>(
 ) -> Result<(), Or<Failed>>
     requires capture { IsCapture (capture_of setup.now items.now ticks) }
     requires fits { All item.Fits items.now }
+    requires grain { setup.now.grain ≡ Tick }
     ensures done { OnOk result (IsWritten (capture_of setup.now items.now ticks)
         (K.taken sink.old) (K.taken sink.new)) }
     ensures cause { IfErr result (λ e. IfFault e (λ f. Rose (K.faults sink.old) (K.faults
@@ -170,7 +173,8 @@ fn write_items<K: Sink>(
     } = prepare(alloc, setup, items, ticks)?;
     let claims = AllClaims {
         setup,
-        rows: parts.rows.as_slice(),
+        count: parts.claims as usize,
+        entries: parts.entries.as_slice(),
         table: parts.table.as_slice(),
     };
     match put_result(&claims, between.as_slice(), &mut found, &mut out, sink) {
@@ -189,6 +193,8 @@ pub fn write_serial<K: Sink>(
     sink: &mut K,
 ) -> Result<(), Or<Failed>>
     requires fits { All item.Fits capture.now.items }
+    // A result of this format has no field for the frame of a tick.
+    requires grain { capture.now.setup.grain ≡ Tick }
     // The sink took the result of the serial history, of which nothing is left out, and in which no
     // activation changes a tick that has begun.
     ensures done { OnOk result (IsWritten capture.now (K.taken sink.old) (K.taken sink.new)) }

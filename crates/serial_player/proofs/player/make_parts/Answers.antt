@@ -20,7 +20,7 @@ returns c =
     let steps = c.as_slice.result.now in
     parts_are (capture_of s items ticks) steps _ _ c.requires.capture
     (subst (HasTurns items) (sym c.as_slice.ensures) c.in_ok-steps.ensures.turns)
-    (c.in_ok-left.ensures s (play_all s steps) c.in_ok-play.ensures)
+    (c.into_parts-left.ensures s (play_all s steps) c.in_ok-play.ensures)
     (c.table.view_is ∙ c.in_ok-table.ensures
     ∙ ap (λ (x : SetupParts). table_of x.device items ticks) c.setup.view_is)
-    refl refl c.in_ok-in_order.ensures
+    refl refl refl c.in_ok-in_order.ensures

@@ -20,7 +20,7 @@ returns-in_err-put-clause-prefix g c = λ entries blocks are.
     let behind : f k ≡ c.as_slice.result.now ++ claim_bytes (claims k) =
     ap (λ (z : List ℕ). z ++ claim_bytes (claims k)) (sym (c.as_slice.ensures
     ∙ c.index-between-k.is ∙ get_or_default c.args.between.now k _ [] within)) in
-    takes_all _ _ _ f (length c.args.claims.now.rows.now) k _ (claim_bytes (claims k))
+    takes_all _ _ _ f c.args.claims.now.count k _ (claim_bytes (claims k))
     c.loop-k-test.true behind
     (takes_then _ _ _ _ _ _ _ (c.loop-k.invariant.sent entries blocks are)
     c.in_err-put.ensures.prefix)
@@ -37,7 +37,7 @@ returns-in_err-put_claim-clause-prefix g c = λ entries blocks are.
     ∙ c.index-between-k.is ∙ get_or_default c.args.between.now k _ [] within)) in
     let sent = sends_then _ _ _ _ _ _ _ _ (c.loop-k.invariant.sent entries blocks are)
     c.in_ok-put.ensures.sent in
-    takes_all _ _ _ f (length c.args.claims.now.rows.now) k _ (claim_bytes (claims k))
+    takes_all _ _ _ f c.args.claims.now.count k _ (claim_bytes (claims k))
     c.loop-k-test.true behind
     (rw append-nil at (takes_then _ _ _ _ _ _ _ sent c.in_err-put_claim.ensures.prefix))
 
@@ -77,10 +77,10 @@ loop-k-preserved g c =
 
 pub returns-clause-sent : goal.returns-clause-sent
 returns-clause-sent g c = λ entries blocks are.
-    let all : c.loop-k.k ≡ length c.args.claims.now.rows.now = search rules in
+    let all : c.loop-k.k ≡ c.args.claims.now.count = search rules in
     rw all at (c.loop-k.invariant.sent entries blocks are)
 
 pub returns-clause-prefix : goal.returns-clause-prefix
 returns-clause-prefix g c = λ entries blocks are.
-    let all : c.loop-k.k ≡ length c.args.claims.now.rows.now = search rules in
+    let all : c.loop-k.k ≡ c.args.claims.now.count = search rules in
     sends_takes _ _ _ _ _ (rw all at (c.loop-k.invariant.sent entries blocks are))

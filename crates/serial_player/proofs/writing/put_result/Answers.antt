@@ -1,4 +1,4 @@
-use Rattle.std.proofs.Common.{◌≡◌, [], length, ◌∙◌, get_or}
+use Rattle.std.proofs.Common.{◌≡◌, [], ◌∙◌, get_or}
 use Rattle.std.proofs.lemmas.List.{get_or_default}
 use Rattle.capture_file.specs.Items.{end_text}
 use Rattle.serial_player.proofs.Hearing.{both_ok, on_ok}
@@ -19,9 +19,9 @@ returns-in_err-put_claims-clause-prefix g c = λ entries blocks are.
 pub returns-in_err-put-2-clause-prefix : goal.returns-in_err-put-2-clause-prefix
 returns-in_err-put-2-clause-prefix g c = λ entries blocks are.
     let between : c.as_slice.result.now ≡ get_or c.args.between.now
-    (length c.args.claims.now.rows.now) [] =
+    (c.args.claims.now.count) [] =
     c.as_slice.ensures ∙ c.index-between-claims.is
-    ∙ get_or_default c.args.between.now (length c.args.claims.now.rows.now) _ []
+    ∙ get_or_default c.args.between.now (c.args.claims.now.count) _ []
     c.requires.ready.between_all in
     let takes = takes_longer _ _ _ _ end_text c.in_err-put-2.ensures.prefix in
     takes_then _ _ _ _ _ _ _ c.in_ok-put.ensures.sent
@@ -31,9 +31,9 @@ returns-in_err-put-2-clause-prefix g c = λ entries blocks are.
 pub returns-in_err-put-3-clause-prefix : goal.returns-in_err-put-3-clause-prefix
 returns-in_err-put-3-clause-prefix g c = λ entries blocks are.
     let between : c.as_slice.result.now ≡ get_or c.args.between.now
-    (length c.args.claims.now.rows.now) [] =
+    (c.args.claims.now.count) [] =
     c.as_slice.ensures ∙ c.index-between-claims.is
-    ∙ get_or_default c.args.between.now (length c.args.claims.now.rows.now) _ []
+    ∙ get_or_default c.args.between.now (c.args.claims.now.count) _ []
     c.requires.ready.between_all in
     let sent = rw between at c.in_ok-put-2.ensures.sent in
     let takes = rw c.end_record.ensures at c.in_err-put-3.ensures.prefix in
@@ -45,9 +45,9 @@ pub returns-clause-ok : goal.returns-clause-ok
 returns-clause-ok g c =
     on_ok c.flush.result _ _ (λ flushed entries blocks are.
     let between : c.as_slice.result.now ≡ get_or c.args.between.now
-    (length c.args.claims.now.rows.now) [] =
+    (c.args.claims.now.count) [] =
     c.as_slice.ensures ∙ c.index-between-claims.is
-    ∙ get_or_default c.args.between.now (length c.args.claims.now.rows.now) _ []
+    ∙ get_or_default c.args.between.now (c.args.claims.now.count) _ []
     c.requires.ready.between_all in
     let sent = rw between at c.in_ok-put-2.ensures.sent in
     let last = rw c.end_record.ensures at c.in_ok-put-3.ensures.sent in
@@ -60,9 +60,9 @@ returns-clause-ok g c =
 pub returns-clause-prefix : goal.returns-clause-prefix
 returns-clause-prefix g c = λ entries blocks are.
     let between : c.as_slice.result.now ≡ get_or c.args.between.now
-    (length c.args.claims.now.rows.now) [] =
+    (c.args.claims.now.count) [] =
     c.as_slice.ensures ∙ c.index-between-claims.is
-    ∙ get_or_default c.args.between.now (length c.args.claims.now.rows.now) _ []
+    ∙ get_or_default c.args.between.now (c.args.claims.now.count) _ []
     c.requires.ready.between_all in
     let sent = rw between at c.in_ok-put-2.ensures.sent in
     let last = rw c.end_record.ensures at c.in_ok-put-3.ensures.sent in

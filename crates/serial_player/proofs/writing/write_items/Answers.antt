@@ -13,15 +13,13 @@ put_result-requires-clause-ready g c =
     let parts = c.in_ok-parts.field-0.parts in
     let whole = capture_of c.args.setup.now c.args.items.now c.args.ticks in
     let of = λ (number : ℕ). between_bytes number parts.journal parts.replies in
-    let rows : length c.as_slice.result.now ≡ packets_in whole =
-    ap length c.as_slice.ensures ∙ made.parts_are.rows.long in
     let long : length c.as_slice-3.result.now ≡ packets_in whole + 1 =
     ap length (c.as_slice-3.ensures ∙ made.between)
     ∙ length-map-range_with_len of 0 (packets_in whole + 1) in
     record {
-      ready = are_ready whole parts _ c.requires.capture made.parts_are refl c.as_slice.ensures
-          c.as_slice-2.ensures;
-      between_all = omega (arith, rows, long);
+      ready = are_ready whole parts _ c.requires.capture made.parts_are refl refl
+          c.as_slice.ensures c.as_slice-2.ensures;
+      between_all = omega (arith, made.parts_are.claims, long);
       flags = ap length c.deref_mut.ensures.value ∙ made.found;
       size = made.size;
     }
@@ -29,12 +27,21 @@ put_result-requires-clause-ready g c =
 pub returns-in-Ok-clause-done : goal.returns-in-Ok-clause-done
 returns-in-Ok-clause-done g c =
     written_is (capture_of c.args.setup.now c.args.items.now c.args.ticks)
-    c.in_ok-parts.field-0 _ _
-    _ _ _ c.requires.capture c.in_ok-parts.ensures c.as_slice.ensures
-    c.as_slice-2.ensures c.as_slice-3.ensures c.in-Ok.ensures.ok
+    c.in_ok-parts.field-0 (record {
+      setup = c.args.setup;
+      count = c.in_ok-parts.field-0.parts.claims;
+      entries = c.as_slice.result;
+      table = c.as_slice-2.result;
+    }) _ _ _ c.requires.capture c.in_ok-parts.ensures refl refl
+    c.as_slice.ensures c.as_slice-2.ensures c.as_slice-3.ensures c.in-Ok.ensures.ok
 
 pub returns-clause-cut_short : goal.returns-clause-cut_short
 returns-clause-cut_short g c =
     cut_short_is (capture_of c.args.setup.now c.args.items.now c.args.ticks)
-    c.in_ok-parts.field-0 _ _ _ _ _ c.requires.capture c.in_ok-parts.ensures
+    c.in_ok-parts.field-0 (record {
+      setup = c.args.setup;
+      count = c.in_ok-parts.field-0.parts.claims;
+      entries = c.as_slice.result;
+      table = c.as_slice-2.result;
+    }) _ _ _ c.requires.capture c.in_ok-parts.ensures refl refl
     c.as_slice.ensures c.as_slice-2.ensures c.as_slice-3.ensures c.put_result.ensures.prefix

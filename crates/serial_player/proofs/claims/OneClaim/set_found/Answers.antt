@@ -1,10 +1,10 @@
-use Rattle.std.proofs.Common.{◌≡◌, ◌<◌, ℕ, true, false, List, length, refl, sym, ap, ◌∙◌, arith}
+use Rattle.std.proofs.Common.{◌≡◌, ◌<◌, ℕ, true, false, length, refl, sym, ap, ◌∙◌, arith}
 use Rattle.std.specs.Prelude.{◌&&◌, is_some, not}
 use Rattle.io_caps.specs.declared.rate.Rate.{Rate}
 use Rattle.map_entry.specs.Setup.{SetupParts}
-use Rattle.map_entry.specs.declared.cell.Cell.{Cell}
-use Rattle.packet_writer.specs.Flags.{is_named}
-use Rattle.packet_writer.specs.Packet.{flag_of}
+use Rattle.packet_writer.specs.Flags.{is_named, names_by}
+use Rattle.packet_writer.specs.Packet.{claim_rows, flag_of, row_at}
+use Rattle.packet_writer.proofs.PacketLaws.{is_named-same}
 use Rattle.serial_player.specs.Table.{place_of_claim, placed}
 use Rattle.serial_player.proofs.TableClaims.{flag_is, flags_closed, when_none}
 use Rattle.serial_player.proofs.claims.OneClaim.set_found.Goals as goal
@@ -15,10 +15,11 @@ returns-clause-flags c = λ entries blocks by.
     let s = of.setup.now in
     let k = of.k in
     let table = of.table.now in
-    let row = of.row.now in
+    let own = of.entries.now in
+    let rows = row_at c.rows.result.entries.now c.rows.result.output c.rows.result.tick in
     let n = s.device.rate.frames in
     let look = c.look_at_marked-untold.ensures in
-    let tick = c.new-2.result in
+    let tick = c.new.result in
     let here = λ (i : ℕ). is_some (placed table (place_of_claim s k) i) in
     let frames : c.rate.result.frames ≡ n =
     ap (λ (r : Rate). r.frames) c.rate.ensures.value
@@ -34,18 +35,18 @@ returns-clause-flags c = λ entries blocks by.
     → flag_of found j ≡ false =
     when_none c.look_at_marked-untold.result told look.other in
     let each : (i : ℕ) → i < length s.device.inputs
-    → flag_of found i ≡ (is_named n (λ f. row) i && here i) = λ i there.
-    let lt : i < length c.args.found.now = omega (arith, there, c.requires) in
+    → flag_of found i ≡ (names_by s own k i && here i) = λ i there.
+    let lt : i < length c.args.found.now = omega (arith, there, c.requires.found) in
     let within : i < length flags = omega (arith, lt, c.mark_named.ensures.len) in
-    let marked : flag_of flags i ≡ is_named n (λ f. row) i =
+    let marked : flag_of flags i ≡ names_by s own k i =
     c.mark_named.ensures.each i lt
-    ∙ ap (λ (m : ℕ). is_named m (λ f. c.new.result.row.now) i) frames
-    ∙ ap (λ (r : List Cell). is_named n (λ f. r) i) (c.new.ensures.row 0) in
+    ∙ ap (λ (m : ℕ). is_named m rows i) frames
+    ∙ is_named-same n rows (claim_rows s own k) (λ f few. c.rows.ensures f) i in
     let same : is_some (placed tick.table.now tick.place i) ≡ here i =
-    rw (c.new-2.ensures.table, c.new-2.ensures.place, c.place.ensures) refl in
+    rw (c.new.ensures.table, c.new.ensures.place, c.place.ensures) refl in
     let seen = look.kept i (is_some (placed tick.table.now tick.place i)) refl in
-    flag_is (is_named n (λ f. row) i) (here i) (flag_of found i) (flag_of flags i) marked
+    flag_is (names_by s own k i) (here i) (flag_of found i) (flag_of flags i) marked
     (λ set. set_told i within set ∙ sym seen ∙ same) (λ none. unset_told i within none) in
     let long : length found ≡ length s.device.inputs =
-    look.len ∙ c.mark_named.ensures.len ∙ c.requires in
-    flags_closed s entries blocks table k row found by.0 by.1 long each
+    look.len ∙ c.mark_named.ensures.len ∙ c.requires.found in
+    flags_closed s own entries blocks table k found by.0 by.1 long each

@@ -1,16 +1,18 @@
-use Rattle.std.proofs.Common.{◌≡◌, ℕ, refl, sym, ◌∙◌}
+use Rattle.std.proofs.Common.{◌≡◌, ℕ, List, refl, sym, ap, subst, ◌∙◌}
 use Rattle.map_entry.specs.Row.{channels_of_output}
-use Rattle.packet_writer.specs.Packet.{output_of_claim}
+use Rattle.map_entry.specs.declared.entry.Entry.{Entry}
+use Rattle.packet_writer.specs.Packet.{RowFits, claim_rows, output_of_claim}
 use Rattle.serial_player.specs.Table.{found_placed, place_of_claim}
 use Rattle.serial_player.proofs.TableClaims.{found_frames, found_of}
 use Rattle.serial_player.proofs.claims.OneClaim.write_packet.Goals as goal
 
 pub write_claim-requires-clause-rows : goal.write_claim-requires-clause-rows
 write_claim-requires-clause-rows c =
-    let of = c.args.self.now in
-    let d = of.setup.now.device in
-    c.new-2.ensures.fits d.inputs (channels_of_output d (output_of_claim of.setup.now of.k))
-    d.rate.frames c.requires.ready.row
+    λ frame within.
+    let s = c.args.self.now.setup.now in
+    let o = output_of_claim s c.args.self.now.k in
+    subst (RowFits s.device.inputs (channels_of_output s.device o)) (sym (c.rows.ensures frame))
+    (c.requires.ready.rows frame within)
 
 pub write_claim-requires-clause-blocks : goal.write_claim-requires-clause-blocks
 write_claim-requires-clause-blocks c = λ b agrees input.
@@ -32,5 +34,6 @@ returns c = λ entries blocks by.
     let same : (i : ℕ) → b i ≡ found_placed table (place_of_claim s k) found i =
     λ i. agrees i ∙ rw (c.new.ensures.table, c.new.ensures.place, c.new.ensures.found, c.place.ensures) refl in
     c.write_claim.ensures.text b (λ i. refl) entries blocks found
-    (λ frame lt. c.new-2.ensures.row frame ∙ sym (by.0 frame))
+    (λ frame lt.
+    c.rows.ensures frame ∙ ap (λ (es : List Entry). claim_rows s es k frame) by.0)
     (found_of s entries blocks table k b found by.1 same)

@@ -9,7 +9,7 @@ returns c =
     let old = c.args.self.now in
     let asked = c.in_ok-reply.ensures in
     plain_asked c.args.client c.args.request.now c.in_ok-reply.reply c.in_ok-reply.stamp old _
-    c.requires.client c.requires.run.floors asked.asked asked.claims asked.setup asked.keeps refl
+    c.requires.client c.requires.run.floors asked.asked asked.tells asked.setup asked.keeps
     (c.in_ok-push.ensures.ok
     ∙ ap (λ (r : ReplyItem). old.replies ++ r ∷ []) c.new.ensures) c.place.ensures.few
     (c.go_on.ensures

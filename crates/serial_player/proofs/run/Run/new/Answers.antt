@@ -7,4 +7,4 @@ pub returns : goal.returns
 returns c =
     new_is c.args.setup.now _
     (subst IsSetup (c.drop.view_is ∙ c.in_ok-copy.ensures) c.drop.invariant) c.in_ok-copy.ensures
-    c.in_ok-new-2.ensures c.new-3.ensures c.new-4.ensures c.in_ok-new-3.ensures
+    c.in_ok-new-2.ensures c.new-3.ensures c.in_ok-new-3.ensures

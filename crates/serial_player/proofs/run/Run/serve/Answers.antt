@@ -13,8 +13,8 @@ returns-in_ok-push-in-At c =
     http_asked c.args.client c.args.http.now _ c.in_ok-serve_over.field-0 c.in-At.stamp
     c.in_ok-said-in-At.said _ _ old _ c.requires.client c.requires.run.floors
     (ap (λ (s : SetupParts). s.device) (sym c.requires.run.setup))
-    c.new-response.ensures.items c.in-At.is asked.served asked.claims asked.setup
-    asked.keeps refl said.value said.short
+    c.new-response.ensures.items c.in-At.is asked.served asked.setup
+    asked.keeps said.value said.short
     (c.in_ok-push-in-At.ensures.ok
     ∙ ap (λ (r : ReplyItem). old.replies ++ r ∷ []) c.new-in-At.ensures) c.place.ensures.few
     (c.go_on.ensures
