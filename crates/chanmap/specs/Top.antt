@@ -124,9 +124,9 @@ pub record HasFailed (command : Command) (status : ℕ) (before after : World) :
 
 -- A run of a command. It ends with one of the command's statuses: with 0 it is done, and with each
 -- other it has the cause of an end that has this status, and was told so. At most one byte more
--- than the most is read. Where the outside tells what the command will read: an input gets its answer,
--- unless the source or the sink fails or memory runs out; bytes with a fault are refused, and too
--- many are too long, unless the source fails or memory runs out.
+-- than the most is read. Where the outside tells what the command will read: an input gets its
+-- answer, unless the source or the sink fails or memory runs out; bytes with a fault are refused,
+-- and too many are too long, unless the source fails or memory runs out.
 pub record IsRunOf (command : Command) (status : ℕ) (before after : World) : Type 0 where
   pub statuses : Contains (statuses_of command) status
   pub done : status ≡ 0 → IsDone command before after

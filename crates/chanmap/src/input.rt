@@ -1,16 +1,17 @@
 //! What a command reads: its source to the end, and the bytes as a capture.
 
-ghost use Rattle.std.specs.Prelude.{◌+◌, IfOk, IfErr};
+ghost use Rattle.std.specs.Prelude.{◌≡◌, ◌+◌, IfOk, IfErr};
 ghost use Rattle.chan_io.specs.Causes.{Rose};
 ghost use Rattle.chan_io.specs.Streams.{BoundedRead, WholeRead};
 ghost use Rattle.capture_file.specs.Walk.{IfFault};
 ghost use Rattle.capture_file.specs.declared.fault.CaptureFault.{CaptureFault};
+ghost use Rattle.map_entry.specs.declared.grain.Grain.TheVariants.{Tick};
 ghost use Rattle.chanmap.specs.Captures.{IsNoCapture, IsWholeInput};
 ghost use Rattle.chanmap.specs.Unread.{IsUnread};
 
 use crate::end::End;
 use capture_file::{Capture, CaptureFault, CaptureKind, read_capture};
-use chan_io::{Source, Unread, read_whole};
+use chan_io::{Source, SourceFault, read_whole};
 use io_caps::Or;
 use std::alloc::Global;
 
@@ -29,15 +30,16 @@ pub(crate) fn read_input<S: Source>(alloc: Global, src: &mut S) -> Result<Vec<u8
 {
     match read_whole(alloc, src, MOST_BYTES) {
         Ok(bytes) => Ok(bytes),
-        Err(Unread::Failed) => Err(End::ReadFault),
-        Err(Unread::TooLong) => Err(End::TooLong),
-        Err(Unread::NoMemory) => Err(End::NoMemory),
+        Err(SourceFault::Failed) => Err(End::ReadFault),
+        Err(SourceFault::TooLong) => Err(End::TooLong),
+        Err(SourceFault::NoMemory) => Err(End::NoMemory),
     }
 }
 
 /// Returns the capture that all of these bytes are, or their first fault.
 pub(crate) fn read_all<'a>(alloc: Global, bytes: &'a [u8]) -> Result<Capture<'a>, Or<CaptureFault>>
     ensures found { IfOk result (IsWholeInput bytes.now) }
+    ensures grain { IfOk result (λ capture. capture.setup.grain ≡ Tick) }
     ensures fault { IfErr result (λ e. IfFault e (IsNoCapture bytes.now)) }
 {
     let (capture, place) = read_capture(alloc, bytes)?;

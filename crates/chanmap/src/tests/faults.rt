@@ -90,9 +90,9 @@ const DEVICE_CHANGES: [(usize, usize, &str, &str); 34] = [
     (47, 49, "ff01", "refused at 8: device"),
     (47, 49, "0002", "refused at 8: device"),
     (47, 49, "0100", "refused at 8: device"),
-    // claims of part of a tick, of 257 ticks, and in 3 bytes
+    // claims of part of a tick, of 4097 ticks, and in 3 bytes
     (70, 74, "00000003", "refused at 74: work"),
-    (70, 74, "00000202", "refused at 74: work"),
+    (70, 74, "00002002", "refused at 74: work"),
     (66, 71, "00000003", "refused at 65: body"),
     // an end with a body, no end, and a byte after the end
     (75, 79, "00000001 00", "refused at 74: body"),
@@ -156,11 +156,14 @@ fn refuse_all(
     Ok(())
 }
 
-/// The id of an input or output: a digit or a capital letter.
+/// The id of an input or output: a digit, a letter, or another character.
 fn id_byte(number: u8) -> u8 {
     match number {
         0..=9 => b'0' + number,
-        _ => b'A' + number.min(35) - 10,
+        10..=35 => b'A' + number - 10,
+        36..=61 => b'a' + number - 36,
+        62 => b'-',
+        _ => b'_',
     }
 }
 
@@ -203,12 +206,12 @@ fn limits_of_a_device(rt: HostRuntime) -> Result<(), Fail> {
     for (frames, inputs, outputs, status) in [
         // the most inputs, outputs, channels of all inputs, channels of one, frames, and bytes of a
         // packet's samples
-        (2, (16, 8), (32, 2), 0),
+        (2, (16, 8), (64, 2), 0),
         (2, (2, 64), (1, 64), 0),
         (240, (0, 1), (1, 3), 0),
         // one more of each
         (2, (17, 1), (1, 1), 5),
-        (2, (1, 1), (33, 1), 5),
+        (2, (1, 1), (65, 1), 5),
         (2, (3, 43), (1, 1), 5),
         (2, (1, 65), (1, 1), 5),
         (2, (1, 1), (1, 65), 5),
@@ -239,30 +242,56 @@ fn capture_faults(rt: HostRuntime) -> Result<(), Fail> {
     refuse_all(&rt, alloc, MID_TICK, &RECORD_CHANGES)
 }
 
-/// The end of the result: the last reply is one of 254 calls or more, with this answer.
-fn full_table_ends(rt: &impl Abort, alloc: Global, count: usize, end: &str) -> Result<(), Fail> {
-    let ran = run(alloc, &["serial"], activations(alloc, count)?, NO_FAULT)?;
+/// No table is ever full: of 600 activations of both outputs each is accepted.
+#[test]
+fn no_full_table(rt: HostRuntime) -> Result<(), Fail> {
+    let alloc = rt.alloc();
+    let ran = run(alloc, &["serial"], activations(alloc, 600)?, NO_FAULT)?;
     assert_eq!(rt; ran.status, 0);
+    let end = hex(
+        alloc,
+        "52 00000023 00 0000000000000257 0000000000000000 01 00 0000000000000258 0000000000000000
+            45 00000000",
+    )?;
+    assert!(rt; ran.out.ends_with(&end));
+    Ok(())
+}
+
+/// A silent capture of many ticks, by the record of its claims: its result has this many bytes,
+/// and ends so.
+fn long_ends(
+    rt: &impl Abort,
+    alloc: Global,
+    work: &str,
+    len: usize,
+    end: &str,
+) -> Result<(), Fail> {
+    let ran = run(alloc, &["serial"], capture(alloc, work)?, NO_FAULT)?;
+    assert_eq!(rt; ran.status, 0);
+    assert_eq!(rt; ran.out.len(), len);
     let end = hex(alloc, end)?;
     assert!(rt; ran.out.ends_with(&end));
     Ok(())
 }
 
-/// Two base entries, and two of each activation: 512 places hold 255 of them.
+/// 257 ticks, and the most.
 #[test]
-fn full_table(rt: HostRuntime) -> Result<(), Fail> {
+fn many_ticks(rt: HostRuntime) -> Result<(), Fail> {
     let alloc = rt.alloc();
-    full_table_ends(
+    long_ends(
         &rt,
         alloc,
-        255,
-        "52 00000023 00 00000000000000fe 0000000000000000 01 00 00000000000000ff 0000000000000000
+        "54 00000004 00000202 45 00000000",
+        18_517,
+        "43 00000021 0000000000000201 00 8061 0100 00000200 00000002 000000000000000000000000
             45 00000000",
     )?;
-    full_table_ends(
+    long_ends(
         &rt,
         alloc,
-        256,
-        "52 00000013 00 00000000000000ff 0000000000000000 01 17 45 00000000",
+        "54 00000004 00002000 45 00000000",
+        294_925,
+        "43 00000021 0000000000001fff 00 8061 0fff 00001ffe 00000002 000000000000000000000000
+            45 00000000",
     )
 }
