@@ -91,9 +91,7 @@ KINDS = (("activations", "requests::activation(alloc)?"), ("readings", "requests
 
 
 def asks() -> Measurement:
-    """Asks of the one-thread book. Its table has 510 places for activations; those after them are
-    refused.
-    """
+    """Asks of the one-thread book, which accepts each of these activations."""
     return Measurement(
         crates="io_caps map_entry plain_book",
         modules=[DEVICE, SETUPS, REQUESTS, ASKS],

@@ -32,12 +32,13 @@ fn base_entry(setup: &Setup, output: u8) -> Result<Entry, NoMemory>
     requires { output < length setup.now.device.outputs }
     ensures output { IfOk result (λ e. e.output ≡ output) }
     ensures tick { IfOk result (λ e. e.tick ≡ setup.now.device.base) }
+    ensures offset { IfOk result (λ e. e.offset ≡ 0) }
     ensures at { IfOk result (λ e. e.at ≡ 0) }
     ensures ok { IfOk result (IsEntryOk setup.now.device) }
 {
     let rows = setup.rows.as_slice();
     let row = rows[output as usize].copy()?;
-    Ok(Entry::new(output, setup.device.base(), row, 0))
+    Ok(Entry::new(output, setup.device.base(), 0, row, 0))
 }
 
 fn base_entries(alloc: Global, setup: &Setup) -> Result<Entries, NoMemory>
@@ -110,11 +111,14 @@ fn publish(
         input: 0,
         channel: (tick % 8) as u8,
     };
-    let entry = Entry::new(output, tick, row(alloc, cell)?, seen.claims);
+    let entry = Entry::new(output, tick, 0, row(alloc, cell)?, seen.claims);
     if publisher.entries().len() >= PLACES as usize {
         return Err(anyhow!("a place"));
     }
-    if !is_row(&setup.device, output, &entry.row) || !is_timely(&setup.device, seen.claims, tick) {
+    if !is_row(&setup.device, output, &entry.row)
+        || !is_timely(&setup.device, seen.claims, tick)
+        || setup.device.rate().frames == 0
+    {
         return Err(anyhow!("an entry that may come"));
     }
     let entries = only(alloc, entry)?;
@@ -165,8 +169,8 @@ returns-clause-ok c =
     let rows = c.as_slice-rows.ensures ∙ ap (λ (x : SetupParts). x.rows) c.setup.view_is in
     let valid = subst IsSetup c.setup.view_is c.setup.invariant in
     let read = slice_get_read s.rows _ o _ refl (omega (arith, c.requires, rows_long s valid)) (rw rows at c.index-rows-output.is) in
-    subst (IsEntryOk s.device) (sym (c.new.ensures ∙ ap (λ (r : List Cell). entry_of o c.base.result r 0) c.in_ok-row.ensures))
-    (base_row s o c.index-rows-output.result valid read)
+    subst (IsEntryOk s.device) (sym (c.new.ensures ∙ ap (λ (r : List Cell). entry_of o c.base.result 0 r 0) c.in_ok-row.ensures))
+    (record { row = base_row s o c.index-rows-output.result valid read; offset = valid.device.bounds.rate.1 })
 """,
         "base_entries/Invariants.antt": """use Rattle.claim_word.proofs.BaseRows.{AreFirst}
 use Rattle.measure.proofs.tables.base_entries.Given as goal
@@ -188,7 +192,7 @@ pub loop-output-preserved : goal.loop-output-preserved
 loop-output-preserved c =
     let s : SetupParts = c.args.setup.now in let o : ℕ = c.loop-output.output in let e = c.in_ok-entry.ensures in
     subst (λ (es : List Entry). AreFirst s es (o + 1)) (sym c.in_ok-push.ensures.ok)
-    (first_more s c.loop-output.made o c.in_ok-entry.entry c.loop-output.invariant e.output e.tick e.at e.ok)
+    (first_more s c.loop-output.made o c.in_ok-entry.entry c.loop-output.invariant e.output e.tick e.offset e.at e.ok)
 
 pub returns-clause-base : goal.returns-clause-base
 returns-clause-base c =

@@ -4,8 +4,6 @@ use crate::device::{BILLION, Cell, Device, SECONDS, write_cell};
 use crate::requests::{Activation, Change, Request, When};
 use crate::routing::find_fault;
 
-/// Of the entries of all outputs, with those that deletions may come to need.
-const PLACES: usize = 512;
 /// When time ends, in nanoseconds.
 const END_OF_TIME: u128 = SECONDS as u128 * BILLION as u128;
 
@@ -22,7 +20,6 @@ const LOCKED: u8 = 0x13;
 const BAD_ROW: u8 = 0x14;
 const PAST_TIME: u8 = 0x15;
 const NOT_PENDING: u8 = 0x16;
-const NO_PLACE: u8 = 0x17;
 
 /// A row, and the tick from which it holds.
 struct Entry {
@@ -72,14 +69,13 @@ pub struct Book<'a> {
     /// For each output in the order in which they were made.
     entries: Vec<Vec<Entry>>,
     accepted: Vec<Accepted<'a>>,
-    places: usize,
 }
 
 impl<'a> Book<'a> {
     pub fn new(device: &'a Device<'a>) -> Self {
         let base = |row: &Vec<Cell>| vec![Entry { tick: device.base, row: row.clone() }];
         let entries = device.outputs.iter().map(|output| base(&output.base_row)).collect();
-        Book { device, entries, accepted: Vec::new(), places: device.outputs.len() }
+        Book { device, entries, accepted: Vec::new() }
     }
 
     /// The row of an output at a tick of the session.
@@ -104,12 +100,7 @@ impl<'a> Book<'a> {
         self.check_locks(first, asked)?;
         let rows = self.changed_rows(first, asked)?;
         let tick = self.land(first, &asked.when).ok_or_else(|| vec![PAST_TIME])?;
-        let (code, each) = if asked.is_at_once() { (ACTIVATED, 1) } else { (SCHEDULED, 2) };
-        let places = self.places + each * rows.len();
-        if places > PLACES {
-            return Err(vec![NO_PLACE]);
-        }
-        self.places = places;
+        let code = if asked.is_at_once() { ACTIVATED } else { SCHEDULED };
         let id = self.accepted.len() as u64 + 1;
         self.accepted.push(Accepted { id, tick, asked, is_deleted: false });
         for (change, row) in asked.changes.iter().zip(rows) {

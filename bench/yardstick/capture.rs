@@ -8,7 +8,7 @@ use crate::requests::{Request, read_request};
 
 const MAGIC: &[u8] = b"CHMCAP1\n";
 const CLIENTS: u8 = 16;
-const MOST_TICKS: u64 = 256;
+const MOST_TICKS: u64 = 4096;
 
 /// What happens in order; for packets only their order at each input counts.
 pub enum Event<'a> {

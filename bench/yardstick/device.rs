@@ -115,7 +115,7 @@ impl Device<'_> {
             && last * (self.frames as u128) < u128::from(self.rate) * u128::from(SECONDS)
             && self.hold <= 64
             && self.inputs.len() <= 16
-            && (1..=32).contains(&self.outputs.len())
+            && (1..=64).contains(&self.outputs.len())
             && are_within_limits(self.inputs.iter().map(|input| &input.port))
             && are_within_limits(self.outputs.iter().map(|output| &output.port))
             && input_channels <= 128

@@ -321,7 +321,6 @@ REPLIES: dict[int, tuple[str, Callable[[Fields, Device], Values]]] = {
     0x14: ("row", row_fault),
     0x15: ("time out of range", lambda f, d: {}),
     0x16: ("not pending", lambda f, d: {"id": f.number(8)}),
-    0x17: ("table full", lambda f, d: {}),
 }
 FORMS = {0: "HTTP", 1: "plain"}
 

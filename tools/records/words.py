@@ -121,7 +121,6 @@ REPLY_PATTERNS: dict[str, str] = {
     "row": "refused, output {output}: {check} at channel {channel}",
     "time out of range": "refused, time out of range",
     "not pending": "refused, id {id} isn't pending",
-    "table full": "refused, table full",
 }
 
 

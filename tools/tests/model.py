@@ -21,7 +21,7 @@ __all__ = ["BILLION", "SECONDS", "Doubtful", "Refused", "record", "result"]
 
 STAMPS = 1 << 32  # timestamps are told up to multiples of it
 CLIENTS = 16
-TICKS = 256  # the most of a capture
+TICKS = 4096  # the most of a capture
 
 
 class Refused(Exception):

@@ -349,7 +349,6 @@ def said_refusal(reply: bytes) -> Said:
         0x13: (423, "output locked"),
         0x15: (400, "time out of range"),
         0x16: (404, "no such activation"),
-        0x17: (507, "table full"),
     }[reply[0]]
     return error(status, words)
 

@@ -11,7 +11,6 @@ RATES = (44100, 48000, 96000, 192000)
 SECONDS = 1 << 40  # the end of time
 BILLION = 1_000_000_000  # nanoseconds of a second
 PAST_BASE = 1 << 23  # as many ticks from the first one start before it
-PLACES = 512  # of map entries
 WIDTHS = {16: 2, 24: 3}  # the bytes of a sample, by its bits
 ID_BYTES = frozenset(b"0123456789ABCDEFGHIJKLMNOPQRSTUVWXYZabcdefghijklmnopqrstuvwxyz-_")
 Cell = Optional[tuple[int, int]]  # an input and its channel, or unrouted
@@ -210,7 +209,7 @@ def check_device(device: Device) -> None:
     """The limits of a device and its base rows."""
     require(device.hz in RATES and 1 <= device.frames <= 240 and device.hold <= 64)
     require((device.base + PAST_BASE) * device.frames < device.hz * SECONDS)
-    require(len(device.inputs) <= 16 and 1 <= len(device.outputs) <= 32)
+    require(len(device.inputs) <= 16 and 1 <= len(device.outputs) <= 64)
     for ports in (device.inputs, device.outputs):
         for port in ports:
             check_port(port)
@@ -321,7 +320,6 @@ class Book:
         self.rows = [[(device.base, output.row)] for output in device.outputs]
         self.accepted: list[Call] = []
         self.calls = 0
-        self.places = len(device.outputs)
 
     def row(self, output: int, tick: int) -> Row:
         return [row for start, row in self.rows[output] if start <= tick][-1]
@@ -366,13 +364,7 @@ class Book:
                 return bytes([0x14, output]) + fault
         if self.land(first, request) is None:
             return b"\x15"
-        if self.places + self.need(request) > PLACES:
-            return b"\x17"
         return None
-
-    @staticmethod
-    def need(request: Request) -> int:
-        return len(request.changes) * (1 if request.op == 0 else 2)
 
     def activate(self, first: int, request: Request) -> tuple[bytes, Optional[bytes]]:
         """The reply, and what an accepted call's record tells: id and tick."""
@@ -382,7 +374,6 @@ class Book:
             return refused, None
         call = Call(len(self.accepted) + 1, self.land(first, request), request)
         self.accepted.append(call)
-        self.places += self.need(request)
         for output, row in rows.items():
             self.rows[output].append((call.tick, row))
         return (b"\0" if request.op == 0 else b"\1") + wide(call.id, call.tick), wide(

@@ -28,7 +28,6 @@ REASONS = {
     423: "Locked",
     431: "Request Header Fields Too Large",
     503: "Service Unavailable",
-    507: "Insufficient Storage",
 }
 BAD = {400: "bad request", 411: "length required", 413: "body too large", 431: "head too large"}
 PREFLIGHT = (

@@ -278,14 +278,21 @@ class Model(unittest.TestCase):
     def test_the_stored_run(self) -> None:
         self.assertEqual(model.result(CAPTURE), RESULT)
 
-    def test_a_full_table(self) -> None:
-        """Two base entries, and two of each activation: the last finds no place."""
+    def test_no_full_table(self) -> None:
+        """A book takes any number of activations, also more than a table has places for."""
         activation = CAPTURE[100:118]
-        for count, refused in ((255, 0), (256, 1), (300, 45)):
+        for count in (255, 256, 1100):
             with self.subTest(count=count):
                 data = CAPTURE[:65] + activation * count + CAPTURE[127:]
                 self.assertTrue(self.check(data))
-                self.assertEqual(model.result(data).count(b"\1\x17"), refused)
+                self.assertEqual(model.result(data).count(activation[6:]), count)
+
+    def test_the_most_ticks(self) -> None:
+        """The stored capture has two outputs, so two claims make a tick."""
+        for claims, is_within in ((8192, True), (8194, False)):
+            with self.subTest(claims=claims):
+                work = model.record(b"T", claims.to_bytes(4, "big"))
+                self.assertEqual(self.check(CAPTURE[:65] + work + CAPTURE[127:]), is_within)
 
     def test_the_stored_capture_cut_at_each_byte(self) -> None:
         for length in range(len(CAPTURE)):

@@ -310,7 +310,6 @@ class Records(unittest.TestCase):
             "14 01 05 01": "refused, output y: block reordered at channel 1",
             "15": "refused, time out of range",
             f"16 {two}": "refused, id 2 isn't pending",
-            "17": "refused, table full",
         }
         for answer, words in expected.items():
             with self.subTest(answer=answer):

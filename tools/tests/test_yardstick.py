@@ -84,11 +84,18 @@ class Yardstick(unittest.TestCase):
             with self.subTest(name=name):
                 self.assertTrue(self.check(make(8).data))
 
-    def test_a_full_table(self) -> None:
+    def test_no_full_table(self) -> None:
         activation = CAPTURE[100:118]
-        for count in (255, 256, 300):
+        for count in (255, 256, 1100):
             with self.subTest(count=count):
                 self.assertTrue(self.check(CAPTURE[:65] + activation * count + CAPTURE[127:]))
+
+    def test_the_most_ticks(self) -> None:
+        """The stored capture has two outputs, so two claims make a tick."""
+        for claims, is_within in ((8192, True), (8194, False)):
+            with self.subTest(claims=claims):
+                work = model.record(b"T", claims.to_bytes(4, "big"))
+                self.assertEqual(self.check(CAPTURE[:65] + work + CAPTURE[127:]), is_within)
 
     def test_the_stored_capture_cut_at_each_byte(self) -> None:
         for length in range(len(CAPTURE)):
