@@ -52,6 +52,8 @@ use Rattle.serial_player.specs.HistoryParts.{AreHistoryParts, history_by_parts}
 use Rattle.serial_player.specs.declared.player.HistoryParts.{HistoryParts}
 use Rattle.serial_player.proofs.PacketLengths.{closed_fits}
 use Rattle.serial_player.specs.declared.claims.AllClaims.{AllClaims}
+use Rattle.serial_player.specs.OutputEntries.{HaveEntries}
+use Rattle.serial_player.proofs.OutputEntries.{own_fit}
 use Rattle.serial_player.specs.Made.{AreBy, AreClaimsOf, AreReady, all_made_by}
 
 bounded : (a b c d : ℕ) → a ≤ b → c ≤ d → a * c ≤ b * d
@@ -137,7 +139,7 @@ made_is c p q count journal replies =
 pub parts_are : (c : CaptureParts) (steps : List Step) (left : RunParts) (p : HistoryParts)
     → IsCapture c → HasTurns c.items steps → AreLeft c.setup (play_all c.setup steps) left
     → p.table ≡ table_of c.setup.device c.items c.ticks → p.claims ≡ left.claims
-    → p.entries ≡ left.entries → p.journal ≡ left.journal → p.replies ≡ in_order left.replies
+    → HaveEntries (length c.setup.device.outputs) left.entries p.entries → p.journal ≡ left.journal → p.replies ≡ in_order left.replies
     → AreHistoryParts c p
 unfolding serial_history
 parts_are c steps left p capture of is table number entries journal replies =
@@ -182,7 +184,8 @@ parts_are c steps left p capture of is table number entries journal replies =
           (steps_fit inputs of.turns each there) short has.few has.held refl claims);
       table = table;
       claims = number ∙ has.claims ∙ count;
-      entries = entries ∙ has.entries ∙ ap (entries_of s) (sym calls);
+      entries = subst (λ es. HaveEntries (length s.device.outputs) es p.entries)
+          (has.entries ∙ ap (entries_of s) (sym calls)) entries;
     }
 
 -- the claims can be made
@@ -198,8 +201,10 @@ are_ready c p claims capture is setup count entries table = record {
     few_claims c capture capture.setup.device.bounds.few_outputs,
   );
   device = rw setup capture.setup.device;
-  rows = λ k lt. rw (setup, entries ∙ is.entries)
-      (all_fit c.setup _ p.journal k capture.setup is.serial.legal.journal);
+  outputs = rw (setup, entries) is.entries.long;
+  rows = λ k lt. rw (setup, entries)
+      (own_fit c.setup (entries_of c.setup p.journal) p.entries k capture.setup.device.bounds.some_output
+      is.entries (all_fit c.setup _ p.journal k capture.setup is.serial.legal.journal));
   table = rw (setup, table ∙ is.table) (table_is c.setup.device c.items c.ticks);
 }
 
@@ -209,7 +214,7 @@ pub all_made : (c : CaptureParts) (p : HistoryParts) (claims : AllClaims) → Is
     → claims.entries.now ≡ p.entries → claims.table.now ≡ p.table
     → AreBy claims (entries_of c.setup p.journal) (blocks_of c)
 all_made c p claims capture is setup count entries table = (
-  entries ∙ is.entries,
+  rw (setup, entries) is.entries,
   λ k lt. rw (setup, table ∙ is.table)
       (table_has c.setup c.items c.ticks k (has_outputs c.setup capture.setup)
       (omega (arith, lt, count, is.claims))),

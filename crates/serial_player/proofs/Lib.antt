@@ -2,6 +2,7 @@ pub mod Ranges
 pub mod Places
 pub mod Tables
 pub mod Packets
+pub mod OutputEntries
 pub mod TableClaims
 pub mod Running
 pub mod Stepping

@@ -8,9 +8,11 @@ use Rattle.map_entry.specs.Setup.{SetupParts}
 use Rattle.map_entry.specs.declared.entry.Entry.{Entry}
 use Rattle.packet_writer.specs.Flags.{AreClosed, IsFound, names_by}
 use Rattle.packet_writer.specs.Heard.{HasFrames, HaveFrames, TickBlocks}
-use Rattle.packet_writer.specs.Packet.{Blocks, flag_of, packet_by}
+use Rattle.packet_writer.specs.Packet.{Blocks, claim_rows, flag_of, packet_by}
 use Rattle.packet_writer.proofs.ClaimLaws.{closed_flags-only}
+use Rattle.packet_writer.proofs.PacketLaws.{is_named-same}
 use Rattle.serial_player.specs.Claim.{claim_by}
+use Rattle.serial_player.specs.OutputEntries.{RulesAlike}
 use Rattle.serial_player.specs.Table.{BlockTable, HasTick, IsTable, found_placed, place_of_claim}
 use Rattle.serial_player.specs.Table.{placed}
 
@@ -28,7 +30,7 @@ when_none (Some a) none own = absurd (true≢false none)
 -- flags by the rows and the table
 pub flags_closed : (s : SetupParts) (own entries : List Entry) (blocks : Blocks)
     (table : BlockTable) (k : ℕ) (found : List Bool)
-    → own ≡ entries → HasTick s table blocks k → length found ≡ length s.device.inputs
+    → RulesAlike s own entries k → HasTick s table blocks k → length found ≡ length s.device.inputs
     → ((i : ℕ) → i < length s.device.inputs
     → flag_of found i ≡ (names_by s own k i && is_some (placed table (place_of_claim s k) i)))
     → AreClosed s entries blocks k found
@@ -36,8 +38,9 @@ flags_closed s own entries blocks table k found same has long each = record {
   long = long;
   each = λ i there.
       each i there
-      ∙ ap (λ (es : List Entry). names_by s es k i && is_some (placed table (place_of_claim s k) i))
-      same
+      ∙ ap (λ (named : Bool). named && is_some (placed table (place_of_claim s k) i))
+      (is_named-same s.device.rate.frames (claim_rows s own k) (claim_rows s entries k)
+      (λ frame few. same frame) i)
       ∙ ap (λ (block : Option (List ℤ)). names_by s entries k i && is_some block) (has i);
 }
 

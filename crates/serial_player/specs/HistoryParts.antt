@@ -1,5 +1,5 @@
 -- What the history of a capture is made of, once all its records were done. (This project's own.)
-use Rattle.std.specs.Prelude.{◌≡◌, map, All}
+use Rattle.std.specs.Prelude.{◌≡◌, map, All, length}
 use Rattle.std.specs.List.{range_with_len}
 use Rattle.map_entry.specs.declared.grain.Grain.TheVariants.{Tick}
 use Rattle.capture_file.specs.Capture.{CaptureParts}
@@ -10,6 +10,7 @@ use Rattle.book_words.specs.History.{history_of}
 use Rattle.plain_book.specs.Journal.{entries_of}
 use Rattle.interleavings.specs.Serial.{closed_claim}
 use Rattle.serial_player.specs.Legal.{IsSerial}
+use Rattle.serial_player.specs.OutputEntries.{HaveEntries}
 use Rattle.serial_player.specs.Serial.{blocks_of, packets_in}
 use Rattle.serial_player.specs.Table.{table_of}
 use Rattle.serial_player.specs.declared.player.HistoryParts.{HistoryParts}
@@ -23,11 +24,11 @@ history_by_parts c p =
 
 -- These are the parts of a capture's history: the history made of them is its serial one, and it
 -- fits its fields where the records do and changes count from ticks. The table has the blocks of
--- all packets, and the entries are those of all calls.
+-- all packets, and the entries are those of all calls, by output.
 pub record AreHistoryParts (c : CaptureParts) (p : HistoryParts) : Type 0 where
   pub serial : IsSerial c (history_by_parts c p)
   pub fits : All item.Fits c.items → c.setup.grain ≡ Tick
       → FitsHistory c.setup.device (history_by_parts c p)
   pub table : p.table ≡ table_of c.setup.device c.items c.ticks
   pub claims : p.claims ≡ packets_in c
-  pub entries : p.entries ≡ entries_of c.setup p.journal
+  pub entries : HaveEntries (length c.setup.device.outputs) (entries_of c.setup p.journal) p.entries

@@ -1,5 +1,5 @@
 -- Claims before they are made, and what is made of them. (This project's own.)
-use Rattle.std.specs.Prelude.{ℕ, ◌<◌, List, ◌≤◌, Bool, map, ◌≡◌}
+use Rattle.std.specs.Prelude.{ℕ, ◌<◌, List, [], ◌≤◌, Bool, map, ◌≡◌, length, slice_index_or}
 use Rattle.std.specs.List.{range_with_len}
 use Rattle.map_entry.specs.declared.entry.Entry.{Entry}
 use Rattle.packet_writer.specs.Packet.{Blocks, packet_by, output_of_claim, packet_length}
@@ -7,6 +7,7 @@ use Rattle.packet_writer.specs.Flags.{AreClosed}
 use Rattle.book_words.specs.declared.history.ClaimItem.{ClaimItem}
 use Rattle.book_words.specs.History.{claim_item}
 use Rattle.serial_player.specs.Claim.{FitsOutput, claim_by}
+use Rattle.serial_player.specs.OutputEntries.{HaveEntries, RulesAlike}
 use Rattle.serial_player.specs.Table.{HasTick, IsTable}
 use Rattle.serial_player.specs.declared.claims.AllClaims.{AllClaims}
 use Rattle.serial_player.specs.declared.claims.OneClaim.{OneClaim}
@@ -23,10 +24,10 @@ pub record IsReady (c : OneClaim) : Type 0 where
   pub rows : FitsOutput c.setup.now c.entries.now c.k
   pub table : IsTable c.setup.now.device c.table.now
 
--- a claim's entries are these, and these are the blocks of its tick
+-- a claim's entries give it the rows that these give it, and these are the blocks of its tick
 abbrev pub IsBy : OneClaim → List Entry → Blocks → Type 0
 IsBy c entries blocks =
-    (c.entries.now ≡ entries) × HasTick c.setup.now c.table.now blocks c.k
+    RulesAlike c.setup.now c.entries.now entries c.k × HasTick c.setup.now c.table.now blocks c.k
 
 -- a claim by a list of entries and over blocks
 abbrev pub made_by : OneClaim → List Entry → Blocks → ClaimItem
@@ -70,17 +71,23 @@ IsRecordOf c found bytes =
 
 -- ---- the first claims
 
+-- the entries of the output of claim k
+abbrev pub own_entries : AllClaims → ℕ → List Entry
+own_entries c k = slice_index_or c.entries.now (output_of_claim c.setup.now k) []
+
 -- the first claims can be made: the rows of their frames and the table fit the device
 pub record AreReady (c : AllClaims) : Type 0 where
   pub claims : c.count ≤ TICKS_PAST_BASE
   pub device : IsDevice c.setup.now.device
-  pub rows : (k : ℕ) → k < c.count → FitsOutput c.setup.now c.entries.now k
+  pub outputs : length c.entries.now ≡ length c.setup.now.device.outputs
+  pub rows : (k : ℕ) → k < c.count → FitsOutput c.setup.now (own_entries c k) k
   pub table : IsTable c.setup.now.device c.table.now
 
--- the entries of the first claims are these, and these are the blocks of their ticks
+-- the first claims have the entries of each output among these, and these are the blocks of their
+-- ticks
 abbrev pub AreBy : AllClaims → List Entry → Blocks → Type 0
 AreBy c entries blocks =
-    (c.entries.now ≡ entries)
+    HaveEntries (length c.setup.now.device.outputs) entries c.entries.now
     × ((k : ℕ) → k < c.count → HasTick c.setup.now c.table.now blocks k)
 
 -- each of the first claims by a list of entries and over blocks

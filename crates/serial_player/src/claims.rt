@@ -1,6 +1,6 @@
 //! The claims of a history.
 
-ghost use Rattle.std.specs.Prelude.{◌≡◌, ◌<◌, ◌+◌, ℕ, IfOk, length};
+ghost use Rattle.std.specs.Prelude.{◌≡◌, ◌<◌, ◌+◌, [], ℕ, IfOk, length, slice_index_or};
 ghost use Rattle.packet_writer.specs.Packet.{claim_rows};
 ghost use Rattle.serial_player.specs.Made.{AreClaimsOf, AreFlagsOf, AreReady, IsClaimOf, IsOneOf};
 ghost use Rattle.serial_player.specs.Made.{IsPacketOf, IsReady, IsRecordOf, packet_length_of};
@@ -10,13 +10,13 @@ use crate::blocks::{FoundOf, TickOf};
 use block_builder::Blocks;
 use capture_file::{CLAIM_HEAD_LEN, write_claim_front};
 use io_caps::{Bytes, Flags, NoMemory};
-use map_entry::{Entry, Setup, claim_output, claim_tick};
+use map_entry::{Entries, Entry, Setup, claim_output, claim_tick};
 use packet_writer::{EntryRows, FrameRows, look_at_marked, mark_named, packet_len, write_claim};
 use plain_book::{ClaimItem, ClaimItems};
 use std::alloc::Global;
 
-/// A claim before it is made: its number, the map entries of the base rows and of all calls, and
-/// the blocks of all packets. Its flags are no part of it: they are given, or chosen as those of
+/// A claim before it is made: its number, the map entries of the base rows and of all calls, or
+/// those of its output alone, and the blocks of all packets. Its flags are no part of it: they are given, or chosen as those of
 /// all blocks that its packet finds.
 #[derive(Drop)]
 pub struct OneClaim<'a> {
@@ -27,25 +27,35 @@ pub struct OneClaim<'a> {
 }
 
 /// The first claims before they are made: how many they are, the map entries of the base rows and
-/// of all calls, and the blocks of all packets.
+/// of all calls, by output, and the blocks of all packets.
 #[derive(Drop)]
 pub(crate) struct AllClaims<'a> {
     pub(crate) setup: &'a Setup,
     pub(crate) count: usize,
-    pub(crate) entries: &'a [Entry],
+    pub(crate) entries: &'a [Entries],
     pub(crate) table: &'a [Blocks],
 }
 
 impl<'a> AllClaims<'a> {
+    /// The map entries of an output.
+    fn output_entries(&self, output: usize) -> &'a [Entry]
+        requires { output < length self.now.entries.now }
+        ensures { result.now ≡ slice_index_or self.now.entries.now output [] }
+    {
+        self.entries[output].as_slice()
+    }
+
     /// The claim of a number.
     pub(crate) fn claim(&self, k: usize) -> OneClaim<'a>
         requires ready { AreReady self.now }
         requires there { k < self.now.count }
         ensures { IsOneOf self.now k result }
     {
+        let setup = self.setup;
+        let output = claim_output(setup.device.outputs(), k as u64);
         OneClaim {
-            setup: self.setup,
-            entries: self.entries,
+            setup,
+            entries: self.output_entries(output as usize),
             table: self.table,
             k: k as u64,
         }

@@ -1,4 +1,4 @@
-use Rattle.std.proofs.Common.{length, sym, ap, subst, ◌∙◌, refl}
+use Rattle.std.proofs.Common.{length, sym, ap, subst, ◌∙◌, refl, rules}
 use Rattle.map_entry.specs.Setup.{SetupParts}
 use Rattle.capture_file.specs.Capture.{capture_of}
 use Rattle.serial_player.specs.Serial.{HasTurns, play_all}
@@ -23,4 +23,4 @@ returns c =
     (c.into_parts-left.ensures s (play_all s steps) c.in_ok-play.ensures)
     (c.table.view_is ∙ c.in_ok-table.ensures
     ∙ ap (λ (x : SetupParts). table_of x.device items ticks) c.setup.view_is)
-    refl refl refl c.in_ok-in_order.ensures
+    refl (search rules) refl c.in_ok-in_order.ensures

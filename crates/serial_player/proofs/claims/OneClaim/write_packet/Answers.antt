@@ -1,7 +1,6 @@
 use Rattle.std.proofs.Common.{◌≡◌, ℕ, List, refl, sym, ap, subst, ◌∙◌}
 use Rattle.map_entry.specs.Row.{channels_of_output}
-use Rattle.map_entry.specs.declared.entry.Entry.{Entry}
-use Rattle.packet_writer.specs.Packet.{RowFits, claim_rows, output_of_claim}
+use Rattle.packet_writer.specs.Packet.{RowFits, output_of_claim}
 use Rattle.serial_player.specs.Table.{found_placed, place_of_claim}
 use Rattle.serial_player.proofs.TableClaims.{found_frames, found_of}
 use Rattle.serial_player.proofs.claims.OneClaim.write_packet.Goals as goal
@@ -35,5 +34,5 @@ returns c = λ entries blocks by.
     λ i. agrees i ∙ rw (c.new.ensures.table, c.new.ensures.place, c.new.ensures.found, c.place.ensures) refl in
     c.write_claim.ensures.text b (λ i. refl) entries blocks found
     (λ frame lt.
-    c.rows.ensures frame ∙ ap (λ (es : List Entry). claim_rows s es k frame) by.0)
+    c.rows.ensures frame ∙ by.0 frame)
     (found_of s entries blocks table k b found by.1 same)
