@@ -19,9 +19,11 @@ use Rattle.book_words.specs.declared.history.ReplyItem.{ReplyItem}
 use Rattle.book_words.specs.History.{history_of}
 use Rattle.capture_file.specs.Tags.{claim_tag}
 use Rattle.capture_file.specs.Device.{flag}
+use Rattle.capture_file.specs.declared.format.Format.{Format}
+use Rattle.capture_file.specs.Formats.{result_magic}
 use Rattle.capture_file.specs.Items.{end_text}
 use Rattle.capture_file.specs.Records.{claim_at, records_from}
-use Rattle.capture_file.specs.Result.{bytes_of, result_magic, result_text, FitsHistory}
+use Rattle.capture_file.specs.Result.{bytes_of, result_text, FitsHistory}
 use Rattle.capture_file.specs.Parts.{between_bytes, bytes_at, claim_bytes, claim_front}
 use Rattle.capture_file.specs.Parts.{AreHeld, AreLeft}
 use Rattle.capture_file.proofs.ResultLaws.{claim_joined, length-claim}
@@ -31,21 +33,22 @@ use Rattle.capture_file.proofs.PartLaws.{whole_text}
 -- ---- between the claims
 
 -- what stands at one more number of claims
-pub made_more : (calls x : List JournalCall) (replies y : List ReplyItem) (n : ℕ)
+pub made_more : (format : Format) (calls x : List JournalCall) (replies y : List ReplyItem) (n : ℕ)
     (made : List (List ℕ)) → AreHeld n calls replies x y
-    → made ≡ map (λ k. between_bytes k calls replies) (range_with_len 0 n)
-    → made ++ between_bytes n x y ∷ []
-    ≡ map (λ k. between_bytes k calls replies) (range_with_len 0 (n + 1))
-made_more calls x replies y n made held was =
-    let f = λ (k : ℕ). between_bytes k calls replies in
-    ap (λ (z : List (List ℕ)). z ++ between_bytes n x y ∷ []) was
+    → made ≡ map (λ k. between_bytes format k calls replies) (range_with_len 0 n)
+    → made ++ between_bytes format n x y ∷ []
+    ≡ map (λ k. between_bytes format k calls replies) (range_with_len 0 (n + 1))
+made_more format calls x replies y n made held was =
+    let f = λ (k : ℕ). between_bytes format k calls replies in
+    ap (λ (z : List (List ℕ)). z ++ between_bytes format n x y ∷ []) was
     ∙ ap (λ (z : List ℕ). map f (range_with_len 0 n) ++ z ∷ [])
-    (between_same n calls x replies y held)
+    (between_same format n calls x replies y held)
     ∙ sym (map-range_with_len_more f 0 n n (zero-add n))
 
 -- of a history that fits its device, each call and each reply can be written
-pub left_of : (d : DeviceParts) (h : History) → FitsHistory d h → AreLeft 0 h.journal h.replies
-left_of d h fits = (whole_left d h fits).between
+pub left_of : (format : Format) (d : DeviceParts) (h : History) → FitsHistory format d h
+    → AreLeft format 0 h.journal h.replies
+left_of format d h fits = (whole_left format d h fits).between
 
 -- ---- a claim
 
@@ -104,29 +107,30 @@ claim_is claim_of is (suc n) a k le lt =
 -- ---- the whole text
 
 -- the record of claim k, after what stands between it and the claim before it
-abbrev pub woven_bytes : (ℕ → ClaimItem) → List JournalCall → List ReplyItem → ℕ → List ℕ
-woven_bytes claim_of calls replies k = between_bytes k calls replies ++ claim_bytes (claim_of k)
+abbrev pub woven_bytes : Format → (ℕ → ClaimItem) → List JournalCall → List ReplyItem → ℕ → List ℕ
+woven_bytes format claim_of calls replies k =
+    between_bytes format k calls replies ++ claim_bytes (claim_of k)
 
 -- the text up to a number of claims
-woven_part : (claim_of : ℕ → ClaimItem) (n : ℕ) (calls : List JournalCall)
+woven_part : (format : Format) (claim_of : ℕ → ClaimItem) (n : ℕ) (calls : List JournalCall)
     (replies : List ReplyItem) → ((k : ℕ) → (claim_of k).k ≡ k) → (m : ℕ) → m ≤ n
-    → flat_map bytes_of
+    → flat_map (bytes_of format)
     (records_from (history_of (map claim_of (range_with_len 0 n)) calls replies) 0 m)
-    ≡ flat_map (woven_bytes claim_of calls replies) (range_with_len 0 m)
-woven_part claim_of n calls replies is zero le = refl
-woven_part claim_of n calls replies is (suc m) le =
+    ≡ flat_map (woven_bytes format claim_of calls replies) (range_with_len 0 m)
+woven_part format claim_of n calls replies is zero le = refl
+woven_part format claim_of n calls replies is (suc m) le =
     let claims = map claim_of (range_with_len 0 n) in
-    let woven = woven_bytes claim_of calls replies in
+    let woven = woven_bytes format claim_of calls replies in
     let one = claim_is claim_of is n 0 m (omega arith) (omega (arith, le)) in
-    bytes_more (history_of claims calls replies) 0 m
-    ∙ ap (λ (z : List ℕ). z ++ bytes_at (0 + m) calls replies claims)
-    (woven_part claim_of n calls replies is m (omega (arith, le)))
-    ∙ ap (λ (k : ℕ). flat_map woven (range_with_len 0 m) ++ bytes_at k calls replies claims)
+    bytes_more format (history_of claims calls replies) 0 m
+    ∙ ap (λ (z : List ℕ). z ++ bytes_at format (0 + m) calls replies claims)
+    (woven_part format claim_of n calls replies is m (omega (arith, le)))
+    ∙ ap (λ (k : ℕ). flat_map woven (range_with_len 0 m) ++ bytes_at format k calls replies claims)
     (zero-add m)
     ∙ ap (λ (z : List ClaimItem). flat_map woven (range_with_len 0 m)
-    ++ (between_bytes m calls replies ++ flat_map claim_bytes z)) one
+    ++ (between_bytes format m calls replies ++ flat_map claim_bytes z)) one
     ∙ ap (λ (z : List ℕ). flat_map woven (range_with_len 0 m)
-    ++ (between_bytes m calls replies ++ z))
+    ++ (between_bytes format m calls replies ++ z))
     (flat_map-cons claim_bytes (claim_of m) [] ∙ append-nil (claim_bytes (claim_of m)))
     ∙ ap (λ (z : List ℕ). flat_map woven (range_with_len 0 m) ++ z)
     (sym (flat_map-cons woven m [] ∙ append-nil (woven m)))
@@ -135,26 +139,28 @@ woven_part claim_of n calls replies is (suc m) le =
     ∙ flat_map-append woven (range_with_len 0 m) (m ∷ []))
 
 -- the text of a history whose claim k is what a function says
-pub woven_text : (d : DeviceParts) (claim_of : ℕ → ClaimItem) (n : ℕ) (calls : List JournalCall)
+pub woven_text : (format : Format) (d : DeviceParts) (claim_of : ℕ → ClaimItem) (n : ℕ) (calls : List JournalCall)
     (replies : List ReplyItem) → ((k : ℕ) → (claim_of k).k ≡ k)
-    → result_text d (history_of (map claim_of (range_with_len 0 n)) calls replies)
-    ≡ result_magic ++ (flat_map (woven_bytes claim_of calls replies) (range_with_len 0 n)
-    ++ (between_bytes n calls replies ++ end_text))
-woven_text d claim_of n calls replies is =
+    → result_text format d (history_of (map claim_of (range_with_len 0 n)) calls replies)
+    ≡ result_magic format
+    ++ (flat_map (woven_bytes format claim_of calls replies) (range_with_len 0 n)
+    ++ (between_bytes format n calls replies ++ end_text))
+woven_text format d claim_of n calls replies is =
     let claims = map claim_of (range_with_len 0 n) in
     let h = history_of claims calls replies in
-    let woven = flat_map (woven_bytes claim_of calls replies) (range_with_len 0 n) in
-    let between = between_bytes n calls replies in
+    let magic = result_magic format in
+    let woven = flat_map (woven_bytes format claim_of calls replies) (range_with_len 0 n) in
+    let between = between_bytes format n calls replies in
     let long = length-map-range_with_len claim_of 0 n in
-    let last : bytes_at (0 + n) calls replies claims ≡ between =
-    ap (λ (k : ℕ). bytes_at k calls replies claims) (zero-add n)
+    let last : bytes_at format (0 + n) calls replies claims ≡ between =
+    ap (λ (k : ℕ). bytes_at format k calls replies claims) (zero-add n)
     ∙ ap (λ (z : List ClaimItem). between ++ flat_map claim_bytes z)
     (none_past claim_of is n 0 n (omega arith)) ∙ append-nil between in
-    sym (whole_text d h [] (suc n) (omega (arith, long)))
-    ∙ ap (λ (z : List ℕ). (result_magic ++ z) ++ end_text)
-    (bytes_more h 0 n
-    ∙ ap (λ (z : List ℕ). z ++ bytes_at (0 + n) calls replies claims)
-    (woven_part claim_of n calls replies is n (omega arith))
+    sym (whole_text format d h [] (suc n) (omega (arith, long)))
+    ∙ ap (λ (z : List ℕ). (magic ++ z) ++ end_text)
+    (bytes_more format h 0 n
+    ∙ ap (λ (z : List ℕ). z ++ bytes_at format (0 + n) calls replies claims)
+    (woven_part format claim_of n calls replies is n (omega arith))
     ∙ ap (λ (z : List ℕ). woven ++ z) last)
-    ∙ append_assoc result_magic (woven ++ between) end_text
-    ∙ ap (λ (z : List ℕ). result_magic ++ z) (append_assoc woven between end_text)
+    ∙ append_assoc magic (woven ++ between) end_text
+    ∙ ap (λ (z : List ℕ). magic ++ z) (append_assoc woven between end_text)

@@ -1,13 +1,17 @@
--- What changes a capture's map counts from ticks: the record of its device says no grain.
+-- The record of a device says no grain, and the format of an opening can say its grain.
 use Rattle.std.proofs.Common.{◌≡◌, ℕ, List, Option, Some, None, sym, ap}
-use Rattle.map_entry.specs.Setup.{SetupParts}
+use Rattle.map_entry.specs.Setup.{SetupParts, setup_of, setup_with}
 use Rattle.map_entry.specs.declared.grain.Grain.{Grain}
 use Rattle.map_entry.specs.declared.grain.Grain.TheVariants.{Tick}
 use Rattle.channel_json.specs.Devices.{Says, base_at, hold_at, inputs_at, rate_in, setup_in}
 use Rattle.channel_json.specs.Devices.{targets_at}
 use Rattle.channel_json.specs.Values.{document}
 use Rattle.channel_json.proofs.BodyLemmas.{then_some}
-use Rattle.capture_file.specs.Capture.{CaptureParts, IsCaptureText, SaysBase}
+use Rattle.capture_file.specs.declared.format.Format.{Format}
+use Rattle.capture_file.specs.declared.format.Format.TheVariants.{One, Two}
+use Rattle.capture_file.specs.declared.opening.Opening.{Opening}
+use Rattle.capture_file.specs.Formats.{AllowsGrain}
+use Rattle.capture_file.specs.Capture.{IsDeviceRecord, Opens, SaysBase, SaysGrain}
 use Rattle.capture_file.specs.declared.before.DeviceForm.{DeviceForm}
 use Rattle.capture_file.specs.declared.before.DeviceForm.TheVariants.{Plain, Json}
 
@@ -31,9 +35,19 @@ base_grain : (form : DeviceForm) (body : List ℕ) (setup : SetupParts) → Says
 base_grain Plain body setup says = says.1
 base_grain Json body setup says = text_grain body setup says
 
--- a capture that has a text has this grain
-pub capture_grain : (c : CaptureParts) (text : List ℕ) → IsCaptureText c text
-    → c.setup.grain ≡ Tick
-capture_grain c text is =
-    let of = is.opens.device in
-    base_grain of.form is.opens.of.1 c.setup of.base.1
+-- the record of a device says no grain
+pub record_ticks : (setup : SetupParts) (r : ℕ × List ℕ) → IsDeviceRecord setup r
+    → setup ≡ setup_of setup.device setup.rows
+record_ticks setup r is =
+    ap (λ (g : Grain). setup_with setup.device setup.rows g)
+    (base_grain is.form r.1 setup is.base.1)
+
+allowed : (format : Format) (bytes : List ℕ) (grain : Grain) (behind : List ℕ)
+    → SaysGrain format bytes grain behind → AllowsGrain format grain
+allowed One bytes grain behind says = says.0
+allowed Two bytes grain behind says = tt
+
+-- an opening's format can say its grain
+pub opens_allowed : (bytes : List ℕ) (o : Opening) (behind : List ℕ) → Opens bytes o behind
+    → AllowsGrain o.format o.setup.grain
+opens_allowed bytes o behind h = allowed o.format h.after o.setup.grain behind h.grain

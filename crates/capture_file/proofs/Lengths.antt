@@ -33,11 +33,13 @@ use Rattle.exact_text.proofs.FormLengths.{IsShort, length-number, shorter, byte_
 use Rattle.exact_text.proofs.FormLengths.{then_short, struct_short, checked_short, counted_short}
 use Rattle.exact_text.proofs.FormLengths.{variant_short, constant_short, no_form_short}
 use Rattle.exact_text.proofs.FormLengths.{choose_short, tagged_short}
+use Rattle.capture_file.specs.declared.format.Format.{Format}
+use Rattle.capture_file.specs.Formats.{moment}
 use Rattle.capture_file.specs.Tags.{now_op, at_op, after_op, delete_op, active_op, pending_op}
 use Rattle.capture_file.specs.Tags.{activated_code, scheduled_code, deleted_code, active_code}
 use Rattle.capture_file.specs.Tags.{pending_code, empty_code, unknown_code, bad_channel_code}
 use Rattle.capture_file.specs.Tags.{locked_code, row_code, time_code, not_pending_code}
-use Rattle.capture_file.specs.Requests.{cell, change, output_change, action, time, moment, request}
+use Rattle.capture_file.specs.Requests.{cell, change, output_change, action, time, request}
 use Rattle.capture_file.specs.Requests.{if_now, if_at, if_after, if_delete}
 use Rattle.capture_file.specs.Replies.{when, if_at_time, if_after_time, shown, if_last, last}
 use Rattle.capture_file.specs.Replies.{if_activated, if_scheduled, if_deleted, if_active}
@@ -47,9 +49,9 @@ use Rattle.capture_file.specs.Replies.{refusal, reply as plain_reply, HoldsPendi
 use Rattle.capture_file.specs.Replies.{HoldsReply}
 use Rattle.capture_file.specs.Parts.{HoldsSaid}
 use Rattle.capture_file.specs.Result.{call_made, call, said, reply, widths_of, FitsCall, FitsReply}
-use Rattle.capture_file.proofs.RequestLaws.{first_frame}
+use Rattle.capture_file.proofs.FormatLaws.{moment_holds, moment_short}
 
-cell_short : IsShort cell 2
+pub cell_short : IsShort cell 2
 unfolding cell
 cell_short = checked_short _ _ (then_short byte_short byte_short)
 
@@ -70,10 +72,6 @@ time_short : IsShort time 12
 unfolding time
 time_short = checked_short _ _ (then_short (number_short 8) (number_short 4))
 
-moment_short : IsShort moment 8
-unfolding moment
-moment_short = checked_short _ _ (number_short 8)
-
 timed_short : IsShort (time ▸ action) 195598
 timed_short = then_short time_short action_short
 
@@ -90,13 +88,14 @@ request_short = tagged_short (λ op.
     choose_short op pending_op (constant_short AskPending) no_form_short))))))
 
 -- a call's record is short
-pub call_short : (c : JournalCall) → FitsCall c → length (call.text c) < 2 ^ 32
+pub call_short : (format : Format) (c : JournalCall) → FitsCall format c
+    → length ((call format).text c) < 2 ^ 32
 unfolding call
-call_short c fits =
+call_short format c fits =
     let s = struct_short (λ c. (c.at, (c.client, (c.id, ((c.tick, c.offset), c.request)))))
     call_made (then_short (number_short 8)
     (then_short byte_short
-    (then_short (number_short 8) (then_short moment_short request_short)))) in
+    (then_short (number_short 8) (then_short (moment_short format) request_short)))) in
     let short = s.most c fits.fits in
     omega (arith, short)
 
@@ -110,16 +109,16 @@ when_short = tagged_short (λ op.
     choose_short op after_op (variant_short (λ t. After t) if_after_time time_short)
     no_form_short)))
 
-shown_short : IsShort shown 29
+shown_short : (format : Format) → IsShort (shown format) 31
 unfolding shown
-shown_short = struct_short _ _
-    (then_short (number_short 8) (then_short when_short moment_short))
+shown_short format = struct_short _ _
+    (then_short (number_short 8) (then_short when_short (moment_short format)))
 
-last_short : IsShort last 30
+last_short : (format : Format) → IsShort (last format) 32
 unfolding last
-last_short = tagged_short
+last_short format = tagged_short
     (λ t. choose_short t 0 (constant_short None)
-    (choose_short t 1 (variant_short (λ a. Some a) if_last shown_short) no_form_short))
+    (choose_short t 1 (variant_short (λ a. Some a) if_last (shown_short format)) no_form_short))
 
 cells_short : (row : List Cell) → AllByRecursion cell.Fits row
     → length (flat_map cell.text row) ≤ length row * 2
@@ -156,11 +155,12 @@ widths_few : (outputs : List Output) → AllByRecursion (λ o. AreChannels o.lab
 widths_few [] are = tt
 widths_few (o ∷ outputs) are = (omega (arith, are.0.1), widths_few outputs are.1)
 
-view_short : (d : DeviceParts) → IsDevice d → IsShort (view (widths_of d)) (30 + MOST_OUTPUTS * 128)
+view_short : (format : Format) (d : DeviceParts) → IsDevice d
+    → IsShort (view format (widths_of d)) (32 + MOST_OUTPUTS * 128)
 unfolding view rows
-view_short d is = record {
+view_short format d is = record {
   most = λ v fits.
-      let s = last_short.most v.last fits.0 in
+      let s = (last_short format).most v.last fits.0 in
       let few = widths_few d.outputs
       (recursion_from_All (λ o. AreChannels o.labels) d.outputs is.streams.outputs) in
       let r = rows_short (widths_of d) v.rows few fits.1 in
@@ -172,15 +172,16 @@ view_short d is = record {
         r,
         n,
         is.bounds.few_outputs,
-        length-append (last.text v.last)
+        length-append ((last format).text v.last)
             (flat_map (flat_map cell.text) v.rows),
       );
 }
 
-pending_short : IsShort pending 195615
+pending_short : (format : Format) → IsShort (pending format) 195617
 unfolding pending
-pending_short = struct_short _ _
-    (then_short (number_short 8) (then_short when_short (then_short moment_short action_short)))
+pending_short format = struct_short _ _
+    (then_short (number_short 8)
+    (then_short when_short (then_short (moment_short format) action_short)))
 
 row_fault_short : IsShort row_fault 2
 unfolding row_fault
@@ -209,31 +210,35 @@ refusal_short code =
 
 -- at most 255 pending activations
 abbrev most : ℕ
-most = 49881826
+most = 49882336
 
-dated_short : IsShort (number 8 ▸ moment) most
-dated_short = shorter most (omega arith) (then_short (number_short 8) moment_short)
+dated_short : (format : Format) → IsShort (number 8 ▸ moment format) most
+dated_short format =
+    shorter most (omega arith) (then_short (number_short 8) (moment_short format))
 
-plain_short : (d : DeviceParts) → IsDevice d → IsShort (plain_reply (widths_of d)) (1 + most)
+plain_short : (format : Format) (d : DeviceParts) → IsDevice d
+    → IsShort (plain_reply format (widths_of d)) (1 + most)
 unfolding plain_reply
-plain_short d is = tagged_short (λ code.
+plain_short format d is = tagged_short (λ code.
     choose_short code activated_code
-    (variant_short (λ p. Activated p.0 p.1.0 p.1.1) if_activated dated_short) (
+    (variant_short (λ p. Activated p.0 p.1.0 p.1.1) if_activated (dated_short format)) (
     choose_short code scheduled_code
-    (variant_short (λ p. Scheduled p.0 p.1.0 p.1.1) if_scheduled dated_short) (
+    (variant_short (λ p. Scheduled p.0 p.1.0 p.1.1) if_scheduled (dated_short format)) (
     choose_short code deleted_code
     (variant_short (λ id. Deleted id) if_deleted (shorter most (omega arith) (number_short 8))) (
     choose_short code active_code
-    (variant_short (λ v. Active v) if_active (shorter most (omega arith) (view_short d is))) (
+    (variant_short (λ v. Active v) if_active (shorter most (omega arith) (view_short format d is))) (
     choose_short code pending_code
     (variant_short (λ items. Pending items) if_pending
-    (shorter most (omega arith) (counted_short pending_short)))
+    (shorter most (omega arith) (counted_short (pending_short format))))
     (shorter most (omega arith) (refusal_short code)))))))
 
 -- ---- what a writer asks
 
-pending_holds : (items : List PendingItem) → (counted pending).Fits items → HoldsPending items
-pending_holds items fits = (fits.0, All-from_recursion pending.Fits items fits.1.1)
+pending_holds : (format : Format) (items : List PendingItem)
+    → (counted (pending format)).Fits items → HoldsPending format items
+pending_holds format items fits =
+    (fits.0, All-from_recursion (pending format).Fits items fits.1.1)
 
 abbrev none : Option Activation
 none = None
@@ -249,50 +254,55 @@ taken p (inr h) = absurd (h.0 p)
 not_none : (a : Activation) → none ≡ Some a → ⊥
 not_none a e = absurd cc
 
-last_holds : (a : Option Activation) → last.Fits a → HoldsLast a
+last_holds : (format : Format) (a : Option Activation) → (last format).Fits a
+    → HoldsLast format a
 unfolding last shown
-last_holds None fits = tt
-last_holds (Some a) fits =
-    first_frame a.tick a.offset (taken refl (skip (not_none a) fits.1)).0.1.1
+last_holds format None fits = tt
+last_holds format (Some a) fits =
+    moment_holds format a.tick a.offset (taken refl (skip (not_none a) fits.1)).0.1.1
 
-holds_plain : (widths : List ℕ) (r : Reply) → (plain_reply widths).Fits r → HoldsReply r
+holds_plain : (format : Format) (widths : List ℕ) (r : Reply) → (plain_reply format widths).Fits r
+    → HoldsReply format r
 unfolding plain_reply view
-holds_plain widths (Activated id tick offset) fits =
-    first_frame tick offset (taken refl fits.1).0.1
-holds_plain widths (Scheduled id tick offset) fits =
-    first_frame tick offset (taken refl (skip (λ f. f) fits.1)).0.1
-holds_plain widths (Deleted id) fits = tt
-holds_plain widths (Active v) fits =
-    last_holds v.last (taken refl (skip (λ f. f) (skip (λ f. f) (skip (λ f. f) fits.1)))).0.0
-holds_plain widths (Refused refused) fits = tt
-holds_plain widths (Pending items) fits =
-    pending_holds items (taken refl
+holds_plain format widths (Activated id tick offset) fits =
+    moment_holds format tick offset (taken refl fits.1).0.1
+holds_plain format widths (Scheduled id tick offset) fits =
+    moment_holds format tick offset (taken refl (skip (λ f. f) fits.1)).0.1
+holds_plain format widths (Deleted id) fits = tt
+holds_plain format widths (Active v) fits =
+    last_holds format v.last (taken refl (skip (λ f. f) (skip (λ f. f) (skip (λ f. f) fits.1)))).0.0
+holds_plain format widths (Refused refused) fits = tt
+holds_plain format widths (Pending items) fits =
+    pending_holds format items (taken refl
     (skip (λ f. f) (skip (λ f. f) (skip (λ f. f) (skip (λ f. f) fits.1))))).0
 
-holds_said : (widths : List ℕ) (s : Said) → (said widths).Fits s → HoldsSaid s
+holds_said : (format : Format) (widths : List ℕ) (s : Said) → (said format widths).Fits s
+    → HoldsSaid format s
 unfolding said
-holds_said widths (Plain r) fits = holds_plain widths r (taken refl fits.1).0
-holds_said widths (Http bytes) fits = tt
+holds_said format widths (Plain r) fits = holds_plain format widths r (taken refl fits.1).0
+holds_said format widths (Http bytes) fits = tt
 
-pub holds_reply : (widths : List ℕ) (r : ReplyItem) → (reply widths).Fits r → HoldsSaid r.said
+pub holds_reply : (format : Format) (widths : List ℕ) (r : ReplyItem)
+    → (reply format widths).Fits r → HoldsSaid format r.said
 unfolding reply
-holds_reply widths r fits = holds_said widths r.said fits.1.1.1
+holds_reply format widths r fits = holds_said format widths r.said fits.1.1.1
 
 -- ---- plain replies
 
-plain_said_short : (d : DeviceParts) (r : Reply) → IsDevice d → (said (widths_of d)).Fits (Plain r)
-    → length ((said (widths_of d)).text (Plain r)) ≤ 2 + most
+plain_said_short : (format : Format) (d : DeviceParts) (r : Reply) → IsDevice d
+    → (said format (widths_of d)).Fits (Plain r)
+    → length ((said format (widths_of d)).text (Plain r)) ≤ 2 + most
 unfolding said
-plain_said_short d r is fits =
-    let s = (plain_short d is).most r (taken refl fits.1).0 in
+plain_said_short format d r is fits =
+    let s = (plain_short format d is).most r (taken refl fits.1).0 in
     omega (arith, s)
 
-body_short : (d : DeviceParts) (client : ℕ) (at : Stamp) (s : Said)
-    → length ((said (widths_of d)).text s) ≤ 2 + most
-    → length ((reply (widths_of d)).text (reply_item client at s)) < 256 ^ 4
+body_short : (format : Format) (d : DeviceParts) (client : ℕ) (at : Stamp) (s : Said)
+    → length ((said format (widths_of d)).text s) ≤ 2 + most
+    → length ((reply format (widths_of d)).text (reply_item client at s)) < 256 ^ 4
 unfolding reply
-body_short d client at s short =
-    let told = (said (widths_of d)).text s in
+body_short format d client at s short =
+    let told = (said format (widths_of d)).text s in
     omega (
       arith,
       short,
@@ -303,17 +313,19 @@ body_short d client at s short =
           (number_text 8 at.claims ++ told),
     )
 
-fits_said : (widths : List ℕ) (r : ReplyItem) → (reply widths).Fits r → (said widths).Fits r.said
+fits_said : (format : Format) (widths : List ℕ) (r : ReplyItem) → (reply format widths).Fits r
+    → (said format widths).Fits r.said
 unfolding reply
-fits_said widths r fits = fits.1.1.1
+fits_said format widths r fits = fits.1.1.1
 
 -- the record of a plain reply is short: where its fields fit, it can be written
-pub plain_record : (d : DeviceParts) (client : ℕ) (at : Stamp) (r : Reply) → IsDevice d
-    → client < CLIENTS → (reply (widths_of d)).Fits (reply_item client at (Plain r))
-    → FitsReply d (reply_item client at (Plain r))
-plain_record d client at r is few fits = record {
+pub plain_record : (format : Format) (d : DeviceParts) (client : ℕ) (at : Stamp) (r : Reply)
+    → IsDevice d → client < CLIENTS
+    → (reply format (widths_of d)).Fits (reply_item client at (Plain r))
+    → FitsReply format d (reply_item client at (Plain r))
+plain_record format d client at r is few fits = record {
   fits = fits;
-  short = body_short d client at (Plain r)
-      (plain_said_short d r is (fits_said (widths_of d) (reply_item client at (Plain r)) fits));
+  short = body_short format d client at (Plain r)
+      (plain_said_short format d r is (fits_said format (widths_of d) (reply_item client at (Plain r)) fits));
   client = few;
 }

@@ -38,8 +38,8 @@ items_same setup tag body x y h k =
 taken_once : (b : FrontParts) (tag : ℕ) (body : List ℕ) (x y : Judged) → IsTaken b tag body x
     → IsTaken b tag body y → x ≡ y
 taken_once b tag body (Ok (Next n)) (Ok (Next m)) h k =
-    ap taken (h.1.1 ∙ ap (λ (x : Item). before b.setup (b.items ++ x ∷ []))
-    (items_same b.setup tag body h.0 k.0 h.1.0 k.1.0) ∙ sym k.1.1)
+    ap taken (h.1.1 ∙ ap (λ (x : Item). before b.opening (b.items ++ x ∷ []))
+    (items_same b.opening.setup tag body h.0 k.0 h.1.0 k.1.0) ∙ sym k.1.1)
 taken_once b tag body (Ok (Next n)) (Ok (Last c)) h k = absurd k
 taken_once b tag body (Ok (Next n)) (Err e) h k = absurd (k.1 h.0 h.1.0)
 taken_once b tag body (Ok (Last c)) y h k = absurd h
@@ -68,9 +68,9 @@ ended_once b body (Ok (Next n)) y h k = absurd h
 ended_once b body (Ok (Last c)) (Ok (Next m)) h k = absurd k
 ended_once b body (Ok (Last c)) (Ok (Last d)) h k =
     let ticks : c.ticks ≡ d.ticks =
-    same_factor (length b.setup.device.outputs) c.ticks d.ticks
+    same_factor (length b.opening.setup.device.outputs) c.ticks d.ticks
     (sum_by claims_of b.items) h.1.0 h.1.1.1.0 k.1.1.1.0 in
-    ap ended (h.1.1.0 ∙ ap (λ (t : ℕ). capture_of b.setup b.items t) ticks ∙ sym k.1.1.0)
+    ap ended (h.1.1.0 ∙ ap (λ (t : ℕ). capture_of b.opening b.items t) ticks ∙ sym k.1.1.0)
 ended_once b body (Ok (Last c)) (Err e) h k = absurd (no_error b body c e h k)
 ended_once b body (Err e) (Ok (Next m)) h k = absurd k
 ended_once b body (Err e) (Ok (Last d)) h k = absurd (no_error b body d e k h)
@@ -83,4 +83,4 @@ later_once ItemRecord b tag body x y h k = taken_once b tag body x y h k
 later_once EndRecord b tag body x y h k = ended_once b body x y h k
 
 pub judges_once : JudgesOnce Judges
-judges_once b tag body x y h k = later_once (sort_of tag) b tag body x y h k
+judges_once b at tag body x y h k = later_once (sort_of b.opening.format tag) b tag body x y h k

@@ -17,10 +17,12 @@ use Rattle.book_words.specs.declared.history.ReplyItem.{ReplyItem}
 use Rattle.book_words.specs.History.{history_of, IsNoLater, AreInOrder, IsWhole}
 use Rattle.capture_file.specs.declared.entries.ResultItem.{ResultItem}
 use Rattle.capture_file.specs.declared.entries.ResultItem.TheVariants.{Claim, Call, Reply as AReply}
+use Rattle.capture_file.specs.declared.format.Format.{Format}
+use Rattle.capture_file.specs.Formats.{result_magic}
 use Rattle.capture_file.specs.Items.{end_text}
 use Rattle.capture_file.specs.Records.{calls_at, replies_at, claim_at, records_at, records_from}
 use Rattle.capture_file.specs.Records.{records_of, if_claim, if_call, if_reply, ShowsAll}
-use Rattle.capture_file.specs.Result.{result_item, result_magic, result_text, bytes_of, widths_of}
+use Rattle.capture_file.specs.Result.{result_item, result_text, bytes_of, widths_of}
 use Rattle.capture_file.specs.Result.{FitsCall, FitsClaim, FitsReply, FitsHistory}
 use Rattle.capture_file.specs.Runs.{IsRisingFrom}
 use Rattle.capture_file.specs.Parts.{call_bytes, reply_bytes, claim_bytes, between_bytes, bytes_at}
@@ -49,40 +51,44 @@ records_more h from n =
 
 -- ---- bytes
 
-map_bytes : {T : Type 0} (make : T → ResultItem) (xs : List T)
-    → flat_map bytes_of (map make xs) ≡ flat_map (λ x. bytes_of (make x)) xs
-map_bytes make [] = refl
-map_bytes {T} make (x ∷ xs) =
-    flat_map-cons bytes_of (make x) (map make xs)
-    ∙ ap (λ (z : List ℕ). bytes_of (make x) ++ z) (map_bytes make xs)
-    ∙ sym (flat_map-cons (λ (y : T). bytes_of (make y)) x xs)
+map_bytes : {T : Type 0} (format : Format) (make : T → ResultItem) (xs : List T)
+    → flat_map (bytes_of format) (map make xs) ≡ flat_map (λ x. bytes_of format (make x)) xs
+map_bytes format make [] = refl
+map_bytes {T} format make (x ∷ xs) =
+    flat_map-cons (bytes_of format) (make x) (map make xs)
+    ∙ ap (λ (z : List ℕ). bytes_of format (make x) ++ z) (map_bytes format make xs)
+    ∙ sym (flat_map-cons (λ (y : T). bytes_of format (make y)) x xs)
 
-pub number_bytes : (h : History) (n : ℕ)
-    → flat_map bytes_of (records_at h n) ≡ bytes_at n h.journal h.replies h.claims
+pub number_bytes : (format : Format) (h : History) (n : ℕ)
+    → flat_map (bytes_of format) (records_at h n)
+    ≡ bytes_at format n h.journal h.replies h.claims
 unfolding records_at
-number_bytes h n =
+number_bytes format h n =
     let calls = map (λ (c : JournalCall). Call c) (calls_at n h.journal) in
     let replies = map (λ (r : ReplyItem). AReply r) (replies_at n h.replies) in
     let claims = map (λ (c : ClaimItem). Claim c) (claim_at n h.claims) in
-    flat_map-append bytes_of calls (replies ++ claims)
-    ∙ ap (λ (z : List ℕ). flat_map bytes_of calls ++ z) (flat_map-append bytes_of replies claims)
+    flat_map-append (bytes_of format) calls (replies ++ claims)
+    ∙ ap (λ (z : List ℕ). flat_map (bytes_of format) calls ++ z)
+    (flat_map-append (bytes_of format) replies claims)
     ∙ rw (
-      map_bytes (λ (c : JournalCall). Call c) (calls_at n h.journal),
-      map_bytes (λ (r : ReplyItem). AReply r) (replies_at n h.replies),
-      map_bytes (λ (c : ClaimItem). Claim c) (claim_at n h.claims),
+      map_bytes format (λ (c : JournalCall). Call c) (calls_at n h.journal),
+      map_bytes format (λ (r : ReplyItem). AReply r) (replies_at n h.replies),
+      map_bytes format (λ (c : ClaimItem). Claim c) (claim_at n h.claims),
     )
-    (sym (append_assoc (flat_map call_bytes (calls_at n h.journal))
-    (flat_map reply_bytes (replies_at n h.replies)) (flat_map claim_bytes (claim_at n h.claims))))
+    (sym (append_assoc (flat_map (call_bytes format) (calls_at n h.journal))
+    (flat_map (reply_bytes format) (replies_at n h.replies))
+    (flat_map claim_bytes (claim_at n h.claims))))
 
 -- what is written at one more number
-pub bytes_more : (h : History) (from n : ℕ)
-    → flat_map bytes_of (records_from h from (suc n)) ≡ flat_map bytes_of (records_from h from n)
-    ++ bytes_at (from + n) h.journal h.replies h.claims
-bytes_more h from n =
-    ap (flat_map bytes_of) (records_more h from n)
-    ∙ flat_map-append bytes_of (records_from h from n) (records_at h (from + n))
-    ∙ ap (λ (z : List ℕ). flat_map bytes_of (records_from h from n) ++ z)
-    (number_bytes h (from + n))
+pub bytes_more : (format : Format) (h : History) (from n : ℕ)
+    → flat_map (bytes_of format) (records_from h from (suc n))
+    ≡ flat_map (bytes_of format) (records_from h from n)
+    ++ bytes_at format (from + n) h.journal h.replies h.claims
+bytes_more format h from n =
+    ap (flat_map (bytes_of format)) (records_more h from n)
+    ∙ flat_map-append (bytes_of format) (records_from h from n) (records_at h (from + n))
+    ∙ ap (λ (z : List ℕ). flat_map (bytes_of format) (records_from h from n) ++ z)
+    (number_bytes format h (from + n))
 
 -- ---- what is left
 
@@ -103,39 +109,43 @@ held_next n calls x u replies y v claims z w h k = record {
   later_claims = from_on_next (λ (c : ClaimItem). c.k) n claims z w h.later_claims k.later_claims;
 }
 
-pub between_left : (from n : ℕ) (calls x : List JournalCall) (replies y : List ReplyItem)
-    → AreLeft from calls replies → AreHeld n calls replies x y → AreLeft n x y
-between_left from n calls x replies y left h = record {
+pub between_left : (format : Format) (from n : ℕ) (calls x : List JournalCall)
+    (replies y : List ReplyItem) → AreLeft format from calls replies → AreHeld n calls replies x y
+    → AreLeft format n x y
+between_left format from n calls x replies y left h = record {
   calls_rise = h.later_calls.rising;
   replies_rise = h.later_replies.rising;
-  calls_fit = from_on_fits (λ (c : JournalCall). c.at) n FitsCall calls x h.later_calls
+  calls_fit = from_on_fits (λ (c : JournalCall). c.at) n (FitsCall format) calls x h.later_calls
       left.calls_fit;
-  replies_fit = from_on_fits (λ (r : ReplyItem). r.stamp.claims) n HoldsItem replies y
+  replies_fit = from_on_fits (λ (r : ReplyItem). r.stamp.claims) n (HoldsItem format) replies y
       h.later_replies left.replies_fit;
 }
 
-pub held_left : (from n : ℕ) (calls x : List JournalCall) (replies y : List ReplyItem)
-    (claims z : List ClaimItem) → IsLeft from calls replies claims
-    → IsHeld n calls replies claims x y z → IsLeft n x y z
-held_left from n calls x replies y claims z left h = record {
-  between = between_left from n calls x replies y left.between h.between;
+pub held_left : (format : Format) (from n : ℕ) (calls x : List JournalCall)
+    (replies y : List ReplyItem) (claims z : List ClaimItem)
+    → IsLeft format from calls replies claims → IsHeld n calls replies claims x y z
+    → IsLeft format n x y z
+held_left format from n calls x replies y claims z left h = record {
+  between = between_left format from n calls x replies y left.between h.between;
   claims_rise = h.later_claims.rising;
   claims_fit = from_on_fits (λ (c : ClaimItem). c.k) n IsShortClaim claims z h.later_claims
       left.claims_fit;
 }
 
-pub between_same : (n : ℕ) (calls x : List JournalCall) (replies y : List ReplyItem)
-    → AreHeld n calls replies x y → between_bytes n x y ≡ between_bytes n calls replies
-between_same n calls x replies y h =
+pub between_same : (format : Format) (n : ℕ) (calls x : List JournalCall)
+    (replies y : List ReplyItem) → AreHeld n calls replies x y
+    → between_bytes format n x y ≡ between_bytes format n calls replies
+between_same format n calls x replies y h =
     rw (
       from_on_same (λ (c : JournalCall). c.at) n calls x h.later_calls,
       from_on_same (λ (r : ReplyItem). r.stamp.claims) n replies y h.later_replies,
     ) refl
 
-pub held_bytes : (n : ℕ) (calls x : List JournalCall) (replies y : List ReplyItem)
-    (claims z : List ClaimItem) → IsHeld n calls replies claims x y z
-    → bytes_at n x y z ≡ bytes_at n calls replies claims
-held_bytes n calls x replies y claims z h =
+pub held_bytes : (format : Format) (n : ℕ) (calls x : List JournalCall)
+    (replies y : List ReplyItem) (claims z : List ClaimItem)
+    → IsHeld n calls replies claims x y z
+    → bytes_at format n x y z ≡ bytes_at format n calls replies claims
+held_bytes format n calls x replies y claims z h =
     rw (
       from_on_same (λ (c : JournalCall). c.at) n calls x h.between.later_calls,
       from_on_same (λ (r : ReplyItem). r.stamp.claims) n replies y h.between.later_replies,
@@ -143,25 +153,26 @@ held_bytes n calls x replies y claims z h =
     ) refl
 
 -- what the loop has written
-pub range_next : (out : List ℕ) (calls x : List JournalCall) (replies y : List ReplyItem)
+pub range_next : (format : Format) (out : List ℕ) (calls x : List JournalCall) (replies y : List ReplyItem)
     (claims z : List ClaimItem) (from n : ℕ) (now next : List ℕ) → from ≤ n
     → IsHeld n calls replies claims x y z
-    → now ≡ out ++ flat_map bytes_of
+    → now ≡ out ++ flat_map (bytes_of format)
     (records_from (history_of claims calls replies) from (n - from))
-    → next ≡ now ++ bytes_at n x y z
-    → next ≡ out ++ flat_map bytes_of
+    → next ≡ now ++ bytes_at format n x y z
+    → next ≡ out ++ flat_map (bytes_of format)
     (records_from (history_of claims calls replies) from (n + 1 - from))
-range_next out calls x replies y claims z from n now next le h was is =
+range_next format out calls x replies y claims z from n now next le h was is =
     let h' = history_of claims calls replies in
     let place : from + (n - from) ≡ n = omega (arith, le) in
     let count : n + 1 - from ≡ suc (n - from) = omega (arith, le) in
-    is ∙ ap (λ (u : List ℕ). u ++ bytes_at n x y z) was
-    ∙ append_assoc out (flat_map bytes_of (records_from h' from (n - from))) (bytes_at n x y z)
-    ∙ ap (λ (u : List ℕ). out ++ (flat_map bytes_of (records_from h' from (n - from)) ++ u))
-    (held_bytes n calls x replies y claims z h
-    ∙ ap (λ (k : ℕ). bytes_at k calls replies claims) (sym place))
-    ∙ ap (λ (u : List ℕ). out ++ u) (sym (bytes_more h' from (n - from))
-    ∙ ap (λ (k : ℕ). flat_map bytes_of (records_from h' from k)) (sym count))
+    let written = flat_map (bytes_of format) (records_from h' from (n - from)) in
+    is ∙ ap (λ (u : List ℕ). u ++ bytes_at format n x y z) was
+    ∙ append_assoc out written (bytes_at format n x y z)
+    ∙ ap (λ (u : List ℕ). out ++ (written ++ u))
+    (held_bytes format n calls x replies y claims z h
+    ∙ ap (λ (k : ℕ). bytes_at format k calls replies claims) (sym place))
+    ∙ ap (λ (u : List ℕ). out ++ u) (sym (bytes_more format h' from (n - from))
+    ∙ ap (λ (k : ℕ). flat_map (bytes_of format) (records_from h' from k)) (sym count))
 
 -- ---- whole histories
 
@@ -244,15 +255,15 @@ replies_rise h whole = order_rise 0 h.replies (all_above h.replies) whole.replie
 
 -- ---- what can be written
 
-replies_fit : (d : DeviceParts) (replies : List ReplyItem) → AllByRecursion (FitsReply d) replies
-    → AllByRecursion HoldsItem replies
-replies_fit d [] fits = tt
-replies_fit d (r ∷ replies) fits = (
+replies_fit : (format : Format) (d : DeviceParts) (replies : List ReplyItem)
+    → AllByRecursion (FitsReply format d) replies → AllByRecursion (HoldsItem format) replies
+replies_fit format d [] fits = tt
+replies_fit format d (r ∷ replies) fits = (
   (
-    holds_reply (widths_of d) r fits.0.fits,
-    omega (arith, fits.0.short, ap length (reply_same (widths_of d) r)),
+    holds_reply format (widths_of d) r fits.0.fits,
+    omega (arith, fits.0.short, ap length (reply_same format (widths_of d) r)),
   ),
-  replies_fit d replies fits.1,
+  replies_fit format d replies fits.1,
 )
 
 claims_fit : (d : DeviceParts) (claims : List ClaimItem) → AllByRecursion (FitsClaim d) claims
@@ -263,15 +274,15 @@ claims_fit d (c ∷ claims) fits = (
   claims_fit d claims fits.1,
 )
 
-pub whole_left : (d : DeviceParts) (h : History) → FitsHistory d h
-    → IsLeft 0 h.journal h.replies h.claims
-whole_left d h fits = record {
+pub whole_left : (format : Format) (d : DeviceParts) (h : History) → FitsHistory format d h
+    → IsLeft format 0 h.journal h.replies h.claims
+whole_left format d h fits = record {
   between = record {
     calls_rise = journal_rise h fits.whole;
     replies_rise = replies_rise h fits.whole;
-    calls_fit = recursion_from_All FitsCall h.journal fits.journal;
-    replies_fit = replies_fit d h.replies
-        (recursion_from_All (FitsReply d) h.replies fits.replies);
+    calls_fit = recursion_from_All (FitsCall format) h.journal fits.journal;
+    replies_fit = replies_fit format d h.replies
+        (recursion_from_All (FitsReply format d) h.replies fits.replies);
   };
   claims_rise = numbered_rise 0 h.claims fits.whole.numbered;
   claims_fit = claims_fit d h.claims (recursion_from_All (FitsClaim d) h.claims fits.claims);
@@ -279,26 +290,29 @@ whole_left d h fits = record {
 
 -- ---- the whole text
 
-items_same : (d : DeviceParts) (xs : List ResultItem)
-    → flat_map (result_item d).text xs ≡ flat_map bytes_of xs
-items_same d [] = refl
-items_same d (x ∷ xs) =
-    flat_map-cons (result_item d).text x xs
-    ∙ ap (λ (z : List ℕ). z ++ flat_map (result_item d).text xs) (bytes_same d x)
-    ∙ ap (λ (z : List ℕ). bytes_of x ++ z) (items_same d xs) ∙ sym (flat_map-cons bytes_of x xs)
+items_same : (format : Format) (d : DeviceParts) (xs : List ResultItem)
+    → flat_map (result_item format d).text xs ≡ flat_map (bytes_of format) xs
+items_same format d [] = refl
+items_same format d (x ∷ xs) =
+    flat_map-cons (result_item format d).text x xs
+    ∙ ap (λ (z : List ℕ). z ++ flat_map (result_item format d).text xs) (bytes_same format d x)
+    ∙ ap (λ (z : List ℕ). bytes_of format x ++ z) (items_same format d xs)
+    ∙ sym (flat_map-cons (bytes_of format) x xs)
 
-pub whole_text : (d : DeviceParts) (h : History) (out : List ℕ) (count : ℕ)
+pub whole_text : (format : Format) (d : DeviceParts) (h : History) (out : List ℕ) (count : ℕ)
     → count ≡ length h.claims + 1
-    → ((out ++ result_magic) ++ flat_map bytes_of (records_from h 0 count)) ++ end_text ≡ out
-    ++ result_text d h
+    → ((out ++ result_magic format) ++ flat_map (bytes_of format) (records_from h 0 count))
+    ++ end_text ≡ out ++ result_text format d h
 unfolding result_text
-whole_text d h out count all =
-    ap (λ (n : ℕ). ((out ++ result_magic) ++ flat_map bytes_of (records_from h 0 n)) ++ end_text)
+whole_text format d h out count all =
+    let magic = result_magic format in
+    let text = flat_map (result_item format d).text (records_of h) in
+    ap (λ (n : ℕ). ((out ++ magic) ++ flat_map (bytes_of format) (records_from h 0 n)) ++ end_text)
     all
-    ∙ ap (λ (z : List ℕ). ((out ++ result_magic) ++ z) ++ end_text)
-    (sym (items_same d (records_of h)))
-    ∙ append_assoc (out ++ result_magic) (flat_map (result_item d).text (records_of h)) end_text
-    ∙ append_assoc out result_magic (flat_map (result_item d).text (records_of h) ++ end_text)
+    ∙ ap (λ (z : List ℕ). ((out ++ magic) ++ z) ++ end_text)
+    (sym (items_same format d (records_of h)))
+    ∙ append_assoc (out ++ magic) text end_text
+    ∙ append_assoc out magic (text ++ end_text)
 
 -- ---- nothing is left out
 

@@ -25,6 +25,7 @@ use Rattle.capture_file.specs.Tags.{deleted_code, active_code, pending_code, emp
 use Rattle.capture_file.specs.Tags.{unknown_code, bad_channel_code, locked_code, row_code}
 use Rattle.capture_file.specs.Tags.{time_code, not_pending_code, input_check, channel_check}
 use Rattle.capture_file.specs.Tags.{routable_check, block_check, order_check}
+use Rattle.capture_file.specs.declared.format.Format.{Format}
 use Rattle.capture_file.specs.Requests.{cell}
 use Rattle.capture_file.specs.Replies.{when, when_op, if_at_time, if_after_time, activation_made}
 use Rattle.capture_file.specs.Replies.{shown, last_tag, if_last, last, rows_at, FitsWidth, rows}
@@ -32,7 +33,8 @@ use Rattle.capture_file.specs.Replies.{view, pending_made, pending, fault_bytes,
 use Rattle.capture_file.specs.Replies.{row_fault, code_of, if_activated, if_scheduled, if_deleted}
 use Rattle.capture_file.specs.Replies.{if_active, if_pending, if_unknown, if_bad_channel, if_locked}
 use Rattle.capture_file.specs.Replies.{if_row, if_not_pending, refusal, reply}
-use Rattle.capture_file.proofs.RequestLaws.{cell_law, action_law, time_law, moment_law}
+use Rattle.capture_file.proofs.FormatLaws.{moment_law}
+use Rattle.capture_file.proofs.RequestLaws.{cell_law, action_law, time_law}
 
 pub when_law : {Follows : List ℕ → Type 0} → Lawful Follows when
 unfolding when
@@ -43,17 +45,17 @@ when_law = tagged_law (λ op.
     choose_tagged (variant_tagged when_op after_op (λ t. After t) if_after_time time_law (λ t. refl)
     (λ t. refl)) (no_form_tagged when_op op))))
 
-pub shown_law : {Follows : List ℕ → Type 0} → Lawful Follows shown
+pub shown_law : {Follows : List ℕ → Type 0} (format : Format) → Lawful Follows (shown format)
 unfolding shown
-shown_law = struct_law _ activation_made
-    (then_law (number_law 8 wide8) (then_law when_law moment_law)) (λ p fits. refl)
+shown_law format = struct_law _ activation_made
+    (then_law (number_law 8 wide8) (then_law when_law (moment_law format))) (λ p fits. refl)
     (λ a fits. refl)
 
-pub last_law : {Follows : List ℕ → Type 0} → Lawful Follows last
+pub last_law : {Follows : List ℕ → Type 0} (format : Format) → Lawful Follows (last format)
 unfolding last
-last_law = tagged_law (λ t.
+last_law format = tagged_law (λ t.
     choose_tagged (constant_tagged last_tag 0 None refl) (
-    choose_tagged (variant_tagged last_tag 1 (λ a. Some a) if_last shown_law (λ a. refl)
+    choose_tagged (variant_tagged last_tag 1 (λ a. Some a) if_last (shown_law format) (λ a. refl)
     (λ a. refl)) (no_form_tagged last_tag t)))
 
 -- ---- rows
@@ -102,15 +104,17 @@ rows_law {Follows} widths = record {
   again = λ x rest fits follows. rows_again widths x rest fits;
 }
 
-pub view_law : {Follows : List ℕ → Type 0} (widths : List ℕ) → Lawful Follows (view widths)
+pub view_law : {Follows : List ℕ → Type 0} (format : Format) (widths : List ℕ)
+    → Lawful Follows (view format widths)
 unfolding view
-view_law widths = struct_law _ _ (then_law last_law (rows_law widths)) (λ p fits. refl)
+view_law format widths = struct_law _ _ (then_law (last_law format) (rows_law widths)) (λ p fits. refl)
     (λ v fits. refl)
 
-pub pending_law : {Follows : List ℕ → Type 0} → Lawful Follows pending
+pub pending_law : {Follows : List ℕ → Type 0} (format : Format)
+    → Lawful Follows (pending format)
 unfolding pending
-pending_law = struct_law _ pending_made
-    (then_law (number_law 8 wide8) (then_law when_law (then_law moment_law action_law)))
+pending_law format = struct_law _ pending_made
+    (then_law (number_law 8 wide8) (then_law when_law (then_law (moment_law format) action_law)))
     (λ p fits. refl) (λ p fits. refl)
 
 -- ---- refusals
@@ -161,16 +165,17 @@ refusal_law code =
 
 -- ---- replies
 
-pub reply_law : {Follows : List ℕ → Type 0} (widths : List ℕ) → Lawful Follows (reply widths)
+pub reply_law : {Follows : List ℕ → Type 0} (format : Format) (widths : List ℕ)
+    → Lawful Follows (reply format widths)
 unfolding reply
-reply_law widths = tagged_law (λ code.
+reply_law format widths = tagged_law (λ code.
     choose_tagged (variant_tagged code_of activated_code (λ p. Activated p.0 p.1.0 p.1.1)
-    if_activated (then_law (number_law 8 wide8) moment_law) (λ p. refl) (λ p. refl)) (
+    if_activated (then_law (number_law 8 wide8) (moment_law format)) (λ p. refl) (λ p. refl)) (
     choose_tagged (variant_tagged code_of scheduled_code (λ p. Scheduled p.0 p.1.0 p.1.1)
-    if_scheduled (then_law (number_law 8 wide8) moment_law) (λ p. refl) (λ p. refl)) (
+    if_scheduled (then_law (number_law 8 wide8) (moment_law format)) (λ p. refl) (λ p. refl)) (
     choose_tagged (variant_tagged code_of deleted_code (λ id. Deleted id) if_deleted
     (number_law 8 wide8) (λ p. refl) (λ p. refl)) (
-    choose_tagged (variant_tagged code_of active_code (λ v. Active v) if_active (view_law widths)
+    choose_tagged (variant_tagged code_of active_code (λ v. Active v) if_active (view_law format widths)
     (λ p. refl) (λ p. refl)) (
     choose_tagged (variant_tagged code_of pending_code (λ items. Pending items) if_pending
-    (counted_law pending_law) (λ p. refl) (λ p. refl)) (refusal_law code))))))
+    (counted_law (pending_law format)) (λ p. refl) (λ p. refl)) (refusal_law code))))))

@@ -1,5 +1,5 @@
 -- The forms of requests are lawful.
-use Rattle.std.proofs.Common.{◌≡◌, ℕ, ◌<◌, ◌^◌, List, Bool, true, false, cond, eqb, Some, refl}
+use Rattle.std.proofs.Common.{◌≡◌, ℕ, List, Bool, true, false, cond, eqb, Some, refl}
 use Rattle.std.proofs.Common.{sym, ap, ◌∙◌}
 use Rattle.std.proofs.lemmas.Bool.{eqb-true}
 use Rattle.exact_text.proofs.Exact.{given, some_is, guard_some}
@@ -13,10 +13,10 @@ use Rattle.book_words.specs.declared.requests.Request.TheVariants.{Pending}
 use Rattle.capture_file.specs.Tags.{unrouted_input, now_op, at_op, after_op, delete_op, active_op}
 use Rattle.capture_file.specs.Tags.{pending_op}
 use Rattle.capture_file.specs.Requests.{cell_bytes, cell_of, cell, change, output_change, named}
-use Rattle.capture_file.specs.Requests.{action, is_ordered, time, is_time, time_made, moment}
+use Rattle.capture_file.specs.Requests.{action, is_ordered, time, is_time, time_made}
 use Rattle.capture_file.specs.Requests.{request, op_of, if_now, if_at, if_after, if_delete}
 use Rattle.exact_text.proofs.FormLaws.{Lawful, byte_law, number_law, then_law, struct_law}
-use Rattle.exact_text.proofs.FormLaws.{checked_law, passing_law, made_law, variant_tagged}
+use Rattle.exact_text.proofs.FormLaws.{checked_law, passing_law, variant_tagged}
 use Rattle.exact_text.proofs.FormLaws.{constant_tagged, no_form_tagged, choose_tagged, tagged_law}
 use Rattle.exact_text.proofs.FormLaws.{counted_law}
 
@@ -52,21 +52,6 @@ pub time_law : {Follows : List ℕ → Type 0} → Lawful Follows time
 unfolding time
 time_law = passing_law _ is_time time_made (then_law (number_law 8 wide8) (number_law 4 wide4))
     (λ p. refl)
-
-pub moment_law : {Follows : List ℕ → Type 0} → Lawful Follows moment
-unfolding moment
-moment_law = made_law (λ m. m.0) (λ tick. (tick, 0)) (number_law 8 wide8) (λ tick. refl)
-
--- a first frame fits, where the number of its tick does
-pub moment_fits : (tick offset : ℕ) → tick < 256 ^ 8 → offset ≡ 0 → moment.Fits (tick, offset)
-unfolding moment
-moment_fits tick offset fits first = (fits, rw first refl)
-
--- the frame of a moment that fits is the first one
-pub first_frame : (tick offset : ℕ) → moment.Fits (tick, offset) → offset ≡ 0
-unfolding moment
-first_frame tick offset fits =
-    sym (ap (λ (m : ℕ × ℕ). m.1) (some_is (tick, 0) (tick, offset) fits.1))
 
 pub request_law : {Follows : List ℕ → Type 0} → Lawful Follows request
 unfolding request

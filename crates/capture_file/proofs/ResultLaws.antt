@@ -24,7 +24,9 @@ use Rattle.exact_text.proofs.FormLaws.{no_form_tagged, choose_tagged, tagged_law
 use Rattle.exact_text.proofs.FormLengths.{length-number}
 use Rattle.capture_file.specs.declared.entries.ResultItem.{ResultItem}
 use Rattle.capture_file.specs.declared.entries.ResultItem.TheVariants.{Claim, Call, Reply as AReply}
+use Rattle.capture_file.specs.declared.entries.ResultItem.TheVariants.{End}
 use Rattle.capture_file.specs.Tags.{claim_tag, call_tag, reply_tag, http_form, plain_form}
+use Rattle.capture_file.specs.declared.format.Format.{Format}
 use Rattle.capture_file.specs.Device.{flag}
 use Rattle.capture_file.specs.Replies.{rows, view, reply as plain_reply}
 use Rattle.capture_file.specs.Records.{if_claim, if_call, if_reply}
@@ -32,15 +34,16 @@ use Rattle.capture_file.specs.Result.{claim_made, claim, call_made, call, form_o
 use Rattle.capture_file.specs.Result.{if_http, said, reply_made, reply, result_tag, widths_of}
 use Rattle.capture_file.specs.Result.{result_body, result_item, bytes_of}
 use Rattle.capture_file.specs.Parts.{claim_bytes}
-use Rattle.capture_file.proofs.RequestLaws.{moment_law, request_law}
+use Rattle.capture_file.proofs.FormatLaws.{moment_law}
+use Rattle.capture_file.proofs.RequestLaws.{request_law}
 use Rattle.capture_file.proofs.ReplyLaws.{reply_law as plain_reply_law}
 use Rattle.capture_file.proofs.DeviceLaws.{flag_law}
 
-said_law : (widths : List ℕ) → Lawful Nothing (said widths)
+said_law : (format : Format) (widths : List ℕ) → Lawful Nothing (said format widths)
 unfolding said
-said_law widths = tagged_law (λ form.
+said_law format widths = tagged_law (λ form.
     choose_tagged (variant_tagged form_of plain_form (λ r. Plain r) if_plain
-    (plain_reply_law widths) (λ r. refl) (λ r. refl)) (
+    (plain_reply_law format widths) (λ r. refl) (λ r. refl)) (
     choose_tagged (variant_tagged form_of http_form (λ bytes. Http bytes) if_http left_law
     (λ r. refl) (λ r. refl)) (no_form_tagged form_of form)))
 
@@ -50,70 +53,77 @@ claim_law inputs = struct_law _ claim_made
     (then_law (number_law 8 wide8) (then_law (many_law inputs flag_law) left_law)) (λ p fits. refl)
     (λ c fits. refl)
 
-call_law : Lawful Nothing call
+call_law : (format : Format) → Lawful Nothing (call format)
 unfolding call
-call_law = struct_law _ call_made
+call_law format = struct_law _ call_made
     (then_law (number_law 8 wide8)
-    (then_law byte_law (then_law (number_law 8 wide8) (then_law moment_law request_law))))
+    (then_law byte_law (then_law (number_law 8 wide8) (then_law (moment_law format) request_law))))
     (λ p fits. refl) (λ c fits. refl)
 
-reply_law : (widths : List ℕ) → Lawful Nothing (reply widths)
+reply_law : (format : Format) (widths : List ℕ) → Lawful Nothing (reply format widths)
 unfolding reply
-reply_law widths = struct_law _ reply_made
+reply_law format widths = struct_law _ reply_made
     (then_law byte_law (then_law (number_law 8 wide8)
-    (then_law (number_law 8 wide8) (said_law widths)))) (λ p fits. refl) (λ r fits. refl)
+    (then_law (number_law 8 wide8) (said_law format widths)))) (λ p fits. refl) (λ r fits. refl)
 
 -- what a record of a result is read as is spelled so, and what is spelled so is read again
-pub result_law : (d : DeviceParts) (t : ℕ) → Tagged Nothing result_tag t (result_body d t)
+pub result_law : (format : Format) (d : DeviceParts) (t : ℕ)
+    → Tagged Nothing result_tag t (result_body format d t)
 unfolding result_body
-result_law d t =
+result_law format d t =
     choose_tagged (variant_tagged result_tag claim_tag (λ c. Claim c) if_claim
     (claim_law (length d.inputs)) (λ c. refl) (λ c. refl)) (
-    choose_tagged (variant_tagged result_tag call_tag (λ c. Call c) if_call call_law (λ c. refl)
+    choose_tagged (variant_tagged result_tag call_tag (λ c. Call c) if_call (call_law format) (λ c. refl)
     (λ c. refl)) (
     choose_tagged (variant_tagged result_tag reply_tag (λ r. AReply r) if_reply
-    (reply_law (widths_of d)) (λ r. refl) (λ r. refl)) (no_form_tagged result_tag t)))
+    (reply_law format (widths_of d)) (λ r. refl) (λ r. refl)) (no_form_tagged result_tag t)))
 
 -- ---- the same bytes on each device
 
-pub plain_same : (widths : List ℕ) (r : Reply)
-    → (plain_reply widths).text r ≡ (plain_reply []).text r
+pub plain_same : (format : Format) (widths : List ℕ) (r : Reply)
+    → (plain_reply format widths).text r ≡ (plain_reply format []).text r
 unfolding plain_reply view rows
-plain_same widths (Activated id tick offset) = refl
-plain_same widths (Scheduled id tick offset) = refl
-plain_same widths (Deleted id) = refl
-plain_same widths (Active v) = refl
-plain_same widths (Pending items) = refl
-plain_same widths (Refused Empty) = refl
-plain_same widths (Refused (Unknown output)) = refl
-plain_same widths (Refused (BadChannel output channel)) = refl
-plain_same widths (Refused (Locked output)) = refl
-plain_same widths (Refused (Row output fault)) = refl
-plain_same widths (Refused Time) = refl
-plain_same widths (Refused (NotPending id)) = refl
+plain_same format widths (Activated id tick offset) = refl
+plain_same format widths (Scheduled id tick offset) = refl
+plain_same format widths (Deleted id) = refl
+plain_same format widths (Active v) = refl
+plain_same format widths (Pending items) = refl
+plain_same format widths (Refused Empty) = refl
+plain_same format widths (Refused (Unknown output)) = refl
+plain_same format widths (Refused (BadChannel output channel)) = refl
+plain_same format widths (Refused (Locked output)) = refl
+plain_same format widths (Refused (Row output fault)) = refl
+plain_same format widths (Refused Time) = refl
+plain_same format widths (Refused (NotPending id)) = refl
 
-said_same : (widths : List ℕ) (s : Said) → (said widths).text s ≡ (said []).text s
+said_same : (format : Format) (widths : List ℕ) (s : Said)
+    → (said format widths).text s ≡ (said format []).text s
 unfolding said
-said_same widths (Http bytes) = refl
-said_same widths (Plain r) = ap (λ (z : List ℕ). plain_form ∷ z) (plain_same widths r)
+said_same format widths (Http bytes) = refl
+said_same format widths (Plain r) =
+    ap (λ (z : List ℕ). plain_form ∷ z) (plain_same format widths r)
 
-pub reply_same : (widths : List ℕ) (r : ReplyItem) → (reply widths).text r ≡ (reply []).text r
+pub reply_same : (format : Format) (widths : List ℕ) (r : ReplyItem)
+    → (reply format widths).text r ≡ (reply format []).text r
 unfolding reply
-reply_same widths r =
+reply_same format widths r =
     ap (λ (z : List ℕ). (r.client ∷ [])
     ++ (number_text 8 r.stamp.calls ++ (number_text 8 r.stamp.claims ++ z)))
-    (said_same widths r.said)
+    (said_same format widths r.said)
 
 pub claim_same : (inputs : ℕ) (c : ClaimItem) → (claim inputs).text c ≡ (claim 0).text c
 unfolding claim
 claim_same inputs c = refl
 
-pub bytes_same : (d : DeviceParts) (x : ResultItem) → (result_item d).text x ≡ bytes_of x
+pub bytes_same : (format : Format) (d : DeviceParts) (x : ResultItem)
+    → (result_item format d).text x ≡ bytes_of format x
 unfolding result_body
-bytes_same d (Claim c) =
+bytes_same format d (Claim c) =
     ap (λ (z : List ℕ). record_text claim_tag z) (claim_same (length d.inputs) c)
-bytes_same d (Call c) = refl
-bytes_same d (AReply r) = ap (λ (z : List ℕ). record_text reply_tag z) (reply_same (widths_of d) r)
+bytes_same format d (Call c) = refl
+bytes_same format d End = refl
+bytes_same format d (AReply r) =
+    ap (λ (z : List ℕ). record_text reply_tag z) (reply_same format (widths_of d) r)
 
 -- ---- claims
 

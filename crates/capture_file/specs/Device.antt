@@ -1,6 +1,6 @@
 -- How a plain device stands in bytes. (This project's own.)
-use Rattle.std.specs.Prelude.{ℕ, ◌+◌, Bool, true, false, List, [], ◌∷◌, length, map, Option, Some}
-use Rattle.std.specs.Prelude.{None, ◌==◌, if◌then◌else◌}
+use Rattle.std.specs.Prelude.{◌≡◌, ℕ, ◌+◌, ◌<◌, ◌^◌, Bool, true, false, List, [], ◌∷◌, length, map}
+use Rattle.std.specs.Prelude.{All, Option, Some, None, ◌==◌, if◌then◌else◌}
 use Rattle.std.specs.Fmt.{decimal}
 use Rattle.std.specs.List.{range_with_len}
 use Rattle.io_caps.specs.declared.rate.Width.{Width}
@@ -13,7 +13,8 @@ use Rattle.io_caps.specs.declared.port.Routable.{Routable}
 use Rattle.io_caps.specs.declared.port.Routable.TheVariants.{All as Anything, Only}
 use Rattle.map_entry.specs.declared.cell.Cell.{Cell}
 use Rattle.capture_file.specs.declared.device.Target.{Target}
-use Rattle.capture_file.specs.Tags.{bits_16, bits_24, all_routable, unrouted_member}
+use Rattle.exact_text.specs.Spellings.{record_text}
+use Rattle.capture_file.specs.Tags.{device_tag, bits_16, bits_24, all_routable, unrouted_member}
 use Rattle.exact_text.specs.Forms.{Form, byte, number, many_of, led, ◌▸◌, struct, checked, tested}
 use Rattle.exact_text.specs.Forms.{counted_text}
 use Rattle.capture_file.specs.Requests.{cell}
@@ -180,3 +181,47 @@ device = checked (number 4 ▸ number 2 ▸ number 8 ▸ byte ▸ ports)
       ),
     ))
     (λ p. Some (device_of p))
+
+-- ---- what can be written
+
+-- an input of which a plain device says all: its name is its id, its labels are numbers, and
+-- nothing else is said of it
+pub record IsPlainInput (i : Input) : Type 0 where
+  pub name : i.name ≡ i.id
+  pub description : i.description ≡ []
+  pub labels : i.labels ≡ numbered (length i.labels)
+  pub parent : i.parent ≡ Nobody
+
+-- the number of members of a routable list is none that says that everything may be routed
+abbrev pub HoldsRoutable : Routable → Type 0
+HoldsRoutable Anything = Unit {0}
+HoldsRoutable (Only members) = length members < all_routable
+
+-- an output of which a plain device says all
+pub record IsPlainOutput (o : Output) : Type 0 where
+  pub name : o.name ≡ o.id
+  pub description : o.description ≡ []
+  pub labels : o.labels ≡ numbered (length o.labels)
+  pub source_id : o.source_id ≡ None
+  pub routable : HoldsRoutable o.routable
+
+-- the numbers of bytes of an input's id and of its channels have one byte each
+abbrev pub HoldsInput : Input → Type 0
+HoldsInput i = (length i.id < 256) × (length i.labels < 256)
+
+-- the same of an output, and its list
+abbrev pub HoldsOutput : Output → Type 0
+HoldsOutput o = (length o.id < 256) × ((length o.labels < 256) × HoldsRoutable o.routable)
+
+-- the source of an output's packets is a number of 4 bytes
+abbrev pub IsSsrc : Output → Type 0
+IsSsrc o = o.ssrc < 2 ^ 32
+
+-- a device of which a plain device record says all
+pub record IsPlainDevice (d : DeviceParts) : Type 0 where
+  pub inputs : All IsPlainInput d.inputs
+  pub outputs : All IsPlainOutput d.outputs
+
+-- the record of a plain device and its base rows
+abbrev pub device_text : Base → List ℕ
+device_text base = record_text device_tag (device.text base)

@@ -1,4 +1,5 @@
 pub mod Tags
+pub mod Formats
 pub mod Requests
 pub mod Replies
 pub mod Device
@@ -7,7 +8,10 @@ pub mod Packets
 pub mod Walk
 pub mod Capture
 pub mod Fault
+pub mod Entries
 pub mod Records
 pub mod Result
+pub mod ResultText
+pub mod ResultFault
 pub mod Runs
 pub mod Parts

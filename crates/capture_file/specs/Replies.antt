@@ -28,7 +28,9 @@ use Rattle.capture_file.specs.Tags.{deleted_code, active_code, pending_code, emp
 use Rattle.capture_file.specs.Tags.{unknown_code, bad_channel_code, locked_code, row_code}
 use Rattle.capture_file.specs.Tags.{time_code, not_pending_code, input_check, channel_check}
 use Rattle.capture_file.specs.Tags.{routable_check, block_check, order_check}
-use Rattle.capture_file.specs.Requests.{cell, action, time, moment}
+use Rattle.capture_file.specs.declared.format.Format.{Format}
+use Rattle.capture_file.specs.Formats.{moment, HoldsOffset}
+use Rattle.capture_file.specs.Requests.{cell, action, time}
 
 -- ---- when
 
@@ -62,8 +64,8 @@ abbrev pub activation_made : ℕ × (When × (ℕ × ℕ)) → Activation
 activation_made (id, (w, (tick, offset))) = activation id w tick offset
 
 -- id, when, moment
-unfoldable pub shown : Form Activation
-shown = struct (number 8 ▸ when ▸ moment) (λ a. (a.id, (a.when, (a.tick, a.offset))))
+unfoldable pub shown : Format → Form Activation
+shown format = struct (number 8 ▸ when ▸ moment format) (λ a. (a.id, (a.when, (a.tick, a.offset))))
     activation_made
 
 -- 1 where there is an activation, and 0 otherwise
@@ -76,9 +78,10 @@ abbrev pub if_last : Option Activation → Option Activation
 if_last a = a
 
 -- 0, or 1 and the activation
-unfoldable pub last : Form (Option Activation)
-last = tagged last_tag
-    (λ t. choose t 0 (constant None) (choose t 1 (variant shown (λ a. Some a) if_last) no_form))
+unfoldable pub last : Format → Form (Option Activation)
+last format = tagged last_tag (λ t.
+    choose t 0 (constant None) (
+    choose t 1 (variant (shown format) (λ a. Some a) if_last) no_form))
 
 -- rows of a given number of cells each
 abbrev pub rows_at : List ℕ → List ℕ → Option (List (List Cell) × List ℕ)
@@ -101,8 +104,8 @@ rows widths = record {
 }
 
 -- the activation that counted last, and each output's row
-unfoldable pub view : List ℕ → Form ActiveView
-view widths = struct (last ▸ rows widths) (λ v. (v.last, v.rows)) (λ p. active_view p.0 p.1)
+unfoldable pub view : Format → List ℕ → Form ActiveView
+view format widths = struct (last format ▸ rows widths) (λ v. (v.last, v.rows)) (λ p. active_view p.0 p.1)
 
 -- ---- the pending activations
 
@@ -111,8 +114,8 @@ abbrev pub pending_made : ℕ × (When × ((ℕ × ℕ) × List OutputChangePart
 pending_made (id, (w, ((tick, offset), a))) = pending_item id w tick offset a
 
 -- id, when, moment, action
-unfoldable pub pending : Form PendingItem
-pending = struct (number 8 ▸ when ▸ moment ▸ action)
+unfoldable pub pending : Format → Form PendingItem
+pending format = struct (number 8 ▸ when ▸ moment format ▸ action)
     (λ p. (p.id, (p.when, ((p.tick, p.offset), p.action)))) pending_made
 
 -- ---- refusals
@@ -225,34 +228,34 @@ refusal code =
 
 -- A code, and then: id and moment; an id; the active map, with a given number of channels of each
 -- output; the number of pending activations and these; what a refusal names.
-unfoldable pub reply : List ℕ → Form Reply
-reply widths = tagged code_of (λ code.
+unfoldable pub reply : Format → List ℕ → Form Reply
+reply format widths = tagged code_of (λ code.
     choose code activated_code
-    (variant (number 8 ▸ moment) (λ p. Activated p.0 p.1.0 p.1.1) if_activated) (
+    (variant (number 8 ▸ moment format) (λ p. Activated p.0 p.1.0 p.1.1) if_activated) (
     choose code scheduled_code
-    (variant (number 8 ▸ moment) (λ p. Scheduled p.0 p.1.0 p.1.1) if_scheduled) (
+    (variant (number 8 ▸ moment format) (λ p. Scheduled p.0 p.1.0 p.1.1) if_scheduled) (
     choose code deleted_code (variant (number 8) (λ id. Deleted id) if_deleted) (
-    choose code active_code (variant (view widths) (λ v. Active v) if_active) (
-    choose code pending_code (variant (counted pending) (λ items. Pending items) if_pending) (
+    choose code active_code (variant (view format widths) (λ v. Active v) if_active) (
+    choose code pending_code (variant (counted (pending format)) (λ items. Pending items) if_pending) (
     refusal code))))))
 
 -- ---- what can be written
 
--- the number of pending activations is that of one byte, and each action fits its fields
-abbrev pub HoldsPending : List PendingItem → Type 0
-HoldsPending items = (length items < 256) × All pending.Fits items
+-- the number of pending activations is that of one byte, and each fits its fields
+abbrev pub HoldsPending : Format → List PendingItem → Type 0
+HoldsPending format items = (length items < 256) × All (pending format).Fits items
 
--- the activation that counted last counts from the first frame of a tick
-abbrev pub HoldsLast : Option Activation → Type 0
-HoldsLast None = Unit {0}
-HoldsLast (Some a) = a.offset ≡ 0
+-- a format can hold the frame from which the activation counts that counted last
+abbrev pub HoldsLast : Format → Option Activation → Type 0
+HoldsLast format None = Unit {0}
+HoldsLast format (Some a) = HoldsOffset format a.offset
 
--- the activations of a reply count from first frames of ticks, and the pending ones fit their
--- fields; other replies can always be written
-abbrev pub HoldsReply : Reply → Type 0
-HoldsReply (Activated id tick offset) = offset ≡ 0
-HoldsReply (Scheduled id tick offset) = offset ≡ 0
-HoldsReply (Deleted id) = Unit {0}
-HoldsReply (Active v) = HoldsLast v.last
-HoldsReply (Pending items) = HoldsPending items
-HoldsReply (Refused r) = Unit {0}
+-- a format can hold the frames from which the activations of a reply count, and the pending ones
+-- fit their fields; other replies can always be written
+abbrev pub HoldsReply : Format → Reply → Type 0
+HoldsReply format (Activated id tick offset) = HoldsOffset format offset
+HoldsReply format (Scheduled id tick offset) = HoldsOffset format offset
+HoldsReply format (Deleted id) = Unit {0}
+HoldsReply format (Active v) = HoldsLast format v.last
+HoldsReply format (Pending items) = HoldsPending format items
+HoldsReply format (Refused r) = Unit {0}

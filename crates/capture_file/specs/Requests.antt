@@ -82,11 +82,6 @@ time_made p = record { secs = p.0; nanos = p.1 }
 unfoldable pub time : Form TaiTime
 time = passing (number 8 ▸ number 4) (λ t. (t.secs, t.nanos)) is_time time_made
 
--- a tick, and the frame of it from which something counts: there is no field for the frame, which
--- is the first one
-unfoldable pub moment : Form (ℕ × ℕ)
-moment = checked (number 8) (λ m. m.0) (λ tick. Some (tick, 0))
-
 -- ---- requests
 
 -- the op byte of a request

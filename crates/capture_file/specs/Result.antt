@@ -20,10 +20,13 @@ use Rattle.exact_text.specs.Forms.{Form, byte, number, many_of, all_left, ◌▸
 use Rattle.exact_text.specs.Forms.{no_form, choose, tagged, in_record}
 use Rattle.capture_file.specs.declared.entries.ResultItem.{ResultItem}
 use Rattle.capture_file.specs.declared.entries.ResultItem.TheVariants.{Claim, Call, Reply as AReply}
-use Rattle.capture_file.specs.Tags.{claim_tag, call_tag, reply_tag, http_form, plain_form}
+use Rattle.capture_file.specs.declared.entries.ResultItem.TheVariants.{End}
+use Rattle.capture_file.specs.Tags.{claim_tag, call_tag, reply_tag, end_tag, http_form, plain_form}
 use Rattle.capture_file.specs.Device.{flag}
 use Rattle.capture_file.specs.Items.{end_text}
-use Rattle.capture_file.specs.Requests.{moment, request}
+use Rattle.capture_file.specs.declared.format.Format.{Format}
+use Rattle.capture_file.specs.Formats.{moment, result_magic}
+use Rattle.capture_file.specs.Requests.{request}
 use Rattle.capture_file.specs.Replies.{reply as plain_reply}
 use Rattle.capture_file.specs.Records.{if_claim, if_call, if_reply, records_of}
 
@@ -46,8 +49,8 @@ call_made (at, (client, (id, ((tick, offset), request)))) =
     journal_call at client id tick offset request
 
 -- claims at acceptance, client, id, moment, request
-unfoldable pub call : Form JournalCall
-call = struct (number 8 ▸ byte ▸ number 8 ▸ moment ▸ request)
+unfoldable pub call : Format → Form JournalCall
+call format = struct (number 8 ▸ byte ▸ number 8 ▸ moment format ▸ request)
     (λ c. (c.at, (c.client, (c.id, ((c.tick, c.offset), c.request))))) call_made
 
 -- ---- replies
@@ -69,9 +72,9 @@ if_http (Plain r) = None
 
 -- the form, and what was said: a plain reply on a device with a given number of channels of each
 -- output, or the bytes of an HTTP response
-unfoldable pub said : List ℕ → Form Said
-said widths = tagged form_of (λ form.
-    choose form plain_form (variant (plain_reply widths) (λ r. Plain r) if_plain) (
+unfoldable pub said : Format → List ℕ → Form Said
+said format widths = tagged form_of (λ form.
+    choose form plain_form (variant (plain_reply format widths) (λ r. Plain r) if_plain) (
     choose form http_form (variant all_left (λ bytes. Http bytes) if_http) no_form))
 
 -- a reply by its fields
@@ -79,8 +82,8 @@ abbrev pub reply_made : ℕ × (ℕ × (ℕ × Said)) → ReplyItem
 reply_made (client, (calls, (claims, s))) = reply_item client (stamp calls claims) s
 
 -- client, calls, claims, what was said
-unfoldable pub reply : List ℕ → Form ReplyItem
-reply widths = struct (byte ▸ number 8 ▸ number 8 ▸ said widths)
+unfoldable pub reply : Format → List ℕ → Form ReplyItem
+reply format widths = struct (byte ▸ number 8 ▸ number 8 ▸ said format widths)
     (λ r. (r.client, (r.stamp.calls, (r.stamp.claims, r.said)))) reply_made
 
 -- ---- records
@@ -90,35 +93,34 @@ abbrev pub result_tag : ResultItem → ℕ
 result_tag (Claim c) = claim_tag
 result_tag (Call c) = call_tag
 result_tag (AReply r) = reply_tag
+result_tag End = end_tag
 
 -- how many channels each output of a device has
 abbrev pub widths_of : DeviceParts → List ℕ
 widths_of d = map (λ o. length o.labels) d.outputs
 
--- the body of a record of a result of this device: a claim, a call, or a reply
-unfoldable pub result_body : DeviceParts → ℕ → Form ResultItem
-result_body d tag =
+-- the body of a record of a result of this device before the last one: a claim, a call, or a reply
+unfoldable pub result_body : Format → DeviceParts → ℕ → Form ResultItem
+result_body format d tag =
     choose tag claim_tag (variant (claim (length d.inputs)) (λ c. Claim c) if_claim) (
-    choose tag call_tag (variant call (λ c. Call c) if_call) (
-    choose tag reply_tag (variant (reply (widths_of d)) (λ r. AReply r) if_reply) no_form))
+    choose tag call_tag (variant (call format) (λ c. Call c) if_call) (
+    choose tag reply_tag (variant (reply format (widths_of d)) (λ r. AReply r) if_reply) no_form))
 
--- a record of a result of this device
-abbrev pub result_item : DeviceParts → Form ResultItem
-result_item d = in_record result_tag (result_body d)
+-- a record of a result of this device before the last one
+abbrev pub result_item : Format → DeviceParts → Form ResultItem
+result_item format d = in_record result_tag (result_body format d)
 
 -- the bytes of a record, which are the same on each device
-abbrev pub bytes_of : ResultItem → List ℕ
-bytes_of (Claim c) = record_text claim_tag ((claim 0).text c)
-bytes_of (Call c) = record_text call_tag (call.text c)
-bytes_of (AReply r) = record_text reply_tag ((reply []).text r)
-
--- the first bytes of a result
-abbrev pub result_magic : List ℕ
-result_magic = codes "CHMRES1\n"
+abbrev pub bytes_of : Format → ResultItem → List ℕ
+bytes_of format (Claim c) = record_text claim_tag ((claim 0).text c)
+bytes_of format (Call c) = record_text call_tag ((call format).text c)
+bytes_of format (AReply r) = record_text reply_tag ((reply format []).text r)
+bytes_of format End = end_text
 
 -- the text of a history: the magic, its records in order, and the last record
-unfoldable pub result_text : DeviceParts → History → List ℕ
-result_text d h = result_magic ++ (flat_map (result_item d).text (records_of h) ++ end_text)
+unfoldable pub result_text : Format → DeviceParts → History → List ℕ
+result_text format d h =
+    result_magic format ++ (flat_map (result_item format d).text (records_of h) ++ end_text)
 
 -- ---- what can be written
 
@@ -128,21 +130,21 @@ pub record FitsClaim (d : DeviceParts) (c : ClaimItem) : Type 0 where
   pub short : length ((claim (length d.inputs)).text c) < 256 ^ 4
 
 -- a record can hold this call, and its client's number is one
-pub record FitsCall (c : JournalCall) : Type 0 where
-  pub fits : call.Fits c
+pub record FitsCall (format : Format) (c : JournalCall) : Type 0 where
+  pub fits : (call format).Fits c
   pub client : c.client < CLIENTS
 
 -- a record can hold this reply of the device, and its client's number is one
-pub record FitsReply (d : DeviceParts) (r : ReplyItem) : Type 0 where
-  pub fits : (reply (widths_of d)).Fits r
-  pub short : length ((reply (widths_of d)).text r) < 256 ^ 4
+pub record FitsReply (format : Format) (d : DeviceParts) (r : ReplyItem) : Type 0 where
+  pub fits : (reply format (widths_of d)).Fits r
+  pub short : length ((reply format (widths_of d)).text r) < 256 ^ 4
   pub client : r.client < CLIENTS
 
 -- a whole history of this device, which is within its limits; each part is what some record of a
 -- result of the device is read as
-pub record FitsHistory (d : DeviceParts) (h : History) : Type 0 where
+pub record FitsHistory (format : Format) (d : DeviceParts) (h : History) : Type 0 where
   pub device : IsDevice d
   pub whole : IsWhole h
   pub claims : All (FitsClaim d) h.claims
-  pub journal : All FitsCall h.journal
-  pub replies : All (FitsReply d) h.replies
+  pub journal : All (FitsCall format) h.journal
+  pub replies : All (FitsReply format d) h.replies

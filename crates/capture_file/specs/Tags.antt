@@ -43,6 +43,20 @@ reply_tag = 82
 abbrev pub end_tag : ℕ
 end_tag = 69
 
+-- `G`: the grain, in a capture of format 2
+abbrev pub grain_tag : ℕ
+grain_tag = 71
+
+-- ---- grains
+
+-- changes count from ticks
+abbrev pub tick_grain : ℕ
+tick_grain = 0
+
+-- changes count from frames
+abbrev pub frame_grain : ℕ
+frame_grain = 1
+
 -- ---- devices and cells
 
 -- the bits of a sample of L16 (RFC 3551 section 4.5.11)

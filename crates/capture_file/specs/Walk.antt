@@ -32,24 +32,27 @@ IsRecord r = (r.0 < 256) × (length r.1 < 256 ^ 4)
 abbrev pub text_of : ℕ × List ℕ → List ℕ
 text_of r = record_text r.0 r.1
 
--- how records are judged: by what stands before one, its tag and its body, what it does to that, or
--- its fault
+-- how records are judged: by what stands before one, its place, its tag and its body, what it does
+-- to what stands before it, or its fault
 abbrev pub Judging : Type 0 → Type 0 → Type 0 → Type 1
-Judging S E F = S → ℕ → List ℕ → Result (Step S E) F → Type 0
+Judging S E F = S → ℕ → ℕ → List ℕ → Result (Step S E) F → Type 0
 
--- records that are taken one after the other lead from this to that
-abbrev pub Leads : {S E F : Type 0} → Judging S E F → S → List (ℕ × List ℕ) → S → Type 0
-Leads judges s [] end = s ≡ end
-Leads {S = S} judges s (r ∷ others) end =
-    IsRecord r × ((next : S) × (judges s r.0 r.1 (Ok (Next next)) × Leads judges next others end))
+-- records that are taken one after the other, the first of them at a place, lead from this to that
+abbrev pub Leads : {S E F : Type 0} → Judging S E F → S → ℕ → List (ℕ × List ℕ) → S → Type 0
+Leads judges s at [] end = s ≡ end
+Leads {S = S} judges s at (r ∷ others) end =
+    IsRecord r × ((next : S) × (judges s at r.0 r.1 (Ok (Next next))
+    × Leads judges next (at + length (text_of r)) others end))
 
--- a front of the bytes, of whole records that are taken: what it leads to, and what follows
--- it
-pub record Front {S E F : Type 0} (judges : Judging S E F) (start : S) (bytes : List ℕ) (end : S)
-    (behind : List ℕ) : Type 0 where
+-- A front of the last bytes of a whole, of whole records that are taken: the place in the whole of
+-- the first of them, what they lead to, and what follows them.
+pub record Front {S E F : Type 0} (judges : Judging S E F) (start : S) (whole : ℕ) (bytes : List ℕ)
+    (end : S) (behind : List ℕ) : Type 0 where
+  pub from : ℕ
+  pub place : from + length bytes ≡ whole
   pub records : List (ℕ × List ℕ)
   pub parts : bytes ≡ flat_map text_of records ++ behind
-  pub leads : Leads judges start records end
+  pub leads : Leads judges start from records end
 
 -- what stands there is not a whole record
 abbrev pub IsCut : List ℕ → Type 0
@@ -60,18 +63,19 @@ pub record Stands (bytes : List ℕ) (r : ℕ × List ℕ) (rest : List ℕ) : T
   pub parts : bytes ≡ text_of r ++ rest
   pub fits : IsRecord r
 
--- the record that stands there has this fault
-pub record HasFault {S E F : Type 0} (judges : Judging S E F) (s : S) (bytes : List ℕ)
+-- the record that stands at this place has this fault
+pub record HasFault {S E F : Type 0} (judges : Judging S E F) (s : S) (at : ℕ) (bytes : List ℕ)
     (fault : F) : Type 0 where
   pub of : ℕ × List ℕ
   pub rest : List ℕ
   pub stands : Stands bytes of rest
-  pub judged : judges s of.0 of.1 (Err fault)
+  pub judged : judges s at of.0 of.1 (Err fault)
 
--- what stands there is faulty in this way: it is not a whole record, which is the fault `cut`, or
--- it is one that has the fault
-abbrev pub IsFaulty : {S E F : Type 0} → Judging S E F → F → S → List ℕ → F → Type 0
-IsFaulty judges cut s bytes fault = (IsCut bytes × (fault ≡ cut)) ⊎ HasFault judges s bytes fault
+-- what stands at this place is faulty in this way: it is not a whole record, which is the fault
+-- `cut`, or it is one that has the fault
+abbrev pub IsFaulty : {S E F : Type 0} → Judging S E F → F → S → ℕ → List ℕ → F → Type 0
+IsFaulty judges cut s at bytes fault =
+    (IsCut bytes × (fault ≡ cut)) ⊎ HasFault judges s at bytes fault
 
 -- The first fault of the last bytes of a whole: after a front of good records, up to this place in
 -- the whole, stands what is faulty in this way.
@@ -79,18 +83,21 @@ pub record FaultAt {S E F : Type 0} (judges : Judging S E F) (cut : F) (start : 
     (bytes : List ℕ) (at : ℕ) (fault : F) : Type 0 where
   pub before : S
   pub behind : List ℕ
-  pub front : Front judges start bytes before behind
+  pub front : Front judges start whole bytes before behind
   pub place : at + length behind ≡ whole
-  pub faulty : IsFaulty judges cut before behind fault
+  pub faulty : IsFaulty judges cut before at behind fault
 
--- The end: after a front of good records stands the last one, up to this place in the whole.
+-- The end: after a front of good records stands the last one, at its place, up to this place in the
+-- whole.
 pub record EndsAt {S E F : Type 0} (judges : Judging S E F) (start : S) (whole : ℕ) (bytes : List ℕ)
     (end : E) (at : ℕ) : Type 0 where
   pub before : S
   pub behind : List ℕ
-  pub front : Front judges start bytes before behind
+  pub front : Front judges start whole bytes before behind
   pub last : ℕ × List ℕ
   pub rest : List ℕ
   pub stands : Stands behind last rest
-  pub judged : judges before last.0 last.1 (Ok (Last end))
+  pub last_at : ℕ
+  pub last_place : last_at + length behind ≡ whole
+  pub judged : judges before last_at last.0 last.1 (Ok (Last end))
   pub place : at + length rest ≡ whole

@@ -9,36 +9,43 @@ ghost use Rattle.capture_file.specs.Walk.{IfFault};
 use crate::before::CaptureFront;
 use crate::opening::read_opening;
 use crate::walk::{RecordFault, walk};
-use crate::{CaptureFault, CaptureKind, Items};
+use crate::{CaptureFault, CaptureKind, Format, Items};
 use io_caps::{NoMemory, Or, TryCopy};
 use map_entry::Setup;
 use std::alloc::Global;
 use std::marker::Model;
 
-/// What came and what was asked of it: a device with its base rows, and the records in order. The
-/// claims are those of whole ticks, and the records name inputs and clients that are there.
+/// What came and what was asked of it: a device with its base rows and its grain, which the format
+/// can say, and the records in order. The claims are those of whole ticks, and the records name
+/// inputs and clients that are there.
 #[derive(Debug, Drop)]
 pub struct Capture<'a> {
+    pub format: Format,
     pub setup: Setup,
+    /// The place of the first record after the device and the grain.
+    pub items_at: u64,
     pub items: Items<'a>,
     /// The ticks of all claims together.
     pub ticks: u64,
 }
 
 impl<'a> Model for Capture<'a> {
-    ghost use Rattle.capture_file.specs.Capture.{CaptureParts, IsCapture, capture_of};
+    ghost use Rattle.capture_file.specs.Capture.{CaptureParts, IsCapture, capture_of, opening_of};
 
     ghost Value = { CaptureParts };
 
-    ghost view = { λ c. capture_of c.setup c.items c.ticks };
+    ghost view = { λ c. capture_of (opening_of c.format c.setup c.items_at) c.items c.ticks };
 
-    ghost invariant = { λ c. IsCapture (capture_of c.setup c.items c.ticks) };
+    ghost invariant = { λ c.
+        IsCapture (capture_of (opening_of c.format c.setup c.items_at) c.items c.ticks) };
 }
 
 impl<'a> TryCopy for Capture<'a> {
     fn copy(&self) -> Result<Capture<'a>, NoMemory> {
         Ok(Capture {
+            format: self.format,
             setup: self.setup.copy()?,
+            items_at: self.items_at,
             items: self.items.copy()?,
             ticks: self.ticks,
         })
@@ -46,7 +53,7 @@ impl<'a> TryCopy for Capture<'a> {
 }
 
 /// The fault that the walk found.
-fn placed(found: RecordFault<CaptureKind>) -> CaptureFault
+pub(crate) fn placed(found: RecordFault<CaptureKind>) -> CaptureFault
     ensures at { result.at ≡ found.at }
     ensures kind { result.kind ≡ found.fault }
 {
@@ -61,12 +68,9 @@ fn read_first<'a>(alloc: Global, bytes: &'a [u8]) -> Result<(Capture<'a>, usize)
     ensures found { IfOk result (λ x. IsCaptureAt bytes.now x.0 x.1) }
     ensures fault { IfErr result (λ e. IfFault e (λ f. FaultIs bytes.now f.at f.kind)) }
 {
-    let (setup, behind) = match read_opening(alloc, bytes) {
-        Ok(opened) => opened,
-        Err(error) => return Err(error),
-    };
+    let (opening, behind) = read_opening(alloc, bytes)?;
     let items = Items::new(alloc);
-    let start = CaptureFront { setup, items };
+    let start = CaptureFront { opening, items };
     match walk(alloc, start, CaptureKind::Cut, bytes.len(), behind) {
         Ok(whole) => Ok(whole),
         Err(Or::Fault(found)) => Err(Or::Fault(placed(found))),

@@ -110,24 +110,26 @@ fn take_item<'a>(alloc: Global, before: CaptureFront<'a>, tag: u8, body: &'a [u8
         Err(Misread::NoReading) => return Err(Or::Fault(CaptureKind::Body)),
         Err(Misread::NoMemory) => return Err(Or::NoMemory),
     };
-    let CaptureFront { setup, mut items } = before;
-    if !is_item_there(&setup, &item) {
+    let CaptureFront { opening, mut items } = before;
+    if !is_item_there(&opening.setup, &item) {
         return Err(Or::Fault(CaptureKind::Body));
     }
     items.push(item)?;
-    Ok(Step::Next(CaptureFront { setup, items }))
+    Ok(Step::Next(CaptureFront { opening, items }))
 }
 
 fn take_end<'a>(before: CaptureFront<'a>, body: &[u8]) -> Judged<'a>
     ensures { IsJudged (IsEnded before.entry body.now) result }
 {
-    let CaptureFront { setup, items } = before;
+    let CaptureFront { opening, items } = before;
     if !body.is_empty() {
         return Err(Or::Fault(CaptureKind::Body));
     }
-    match ticks_of(setup.device.outputs(), items.as_slice()) {
+    match ticks_of(opening.setup.device.outputs(), items.as_slice()) {
         Some(ticks) => Ok(Step::Last(Capture {
-            setup,
+            format: opening.format,
+            setup: opening.setup,
+            items_at: opening.items_at,
             items,
             ticks,
         })),
@@ -136,9 +138,9 @@ fn take_end<'a>(before: CaptureFront<'a>, body: &[u8]) -> Judged<'a>
 }
 
 fn take_later<'a>(alloc: Global, before: CaptureFront<'a>, tag: u8, body: &'a [u8]) -> Judged<'a>
-    ensures { IsJudged (IsLater (sort_of tag) before.entry tag body.now) result }
+    ensures { IsJudged (IsLater (sort_of before.entry.opening.format tag) before.entry tag body.now) result }
 {
-    match sort_of(tag) {
+    match sort_of(before.opening.format, tag) {
         RecordKind::ItemRecord => take_item(alloc, before, tag, body),
         RecordKind::EndRecord => take_end(before, body),
         RecordKind::NoRecord(kind) => Err(Or::Fault(kind)),
@@ -148,7 +150,7 @@ fn take_later<'a>(alloc: Global, before: CaptureFront<'a>, tag: u8, body: &'a [u
 impl<'a> Judge<'a, Capture<'a>, CaptureKind> for CaptureFront<'a> {
     ghost judges = { Judges };
 
-    fn judge(self, alloc: Global, tag: u8, body: &'a [u8]) -> Judged<'a> {
+    fn judge(self, alloc: Global, _at: usize, tag: u8, body: &'a [u8]) -> Judged<'a> {
         take_later(alloc, self, tag, body)
     }
 }

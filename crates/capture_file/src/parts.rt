@@ -10,7 +10,7 @@ ghost use Rattle.capture_file.specs.Parts.{AreLeft, between_bytes, claim_front};
 ghost use Rattle.capture_file.specs.Tags.{claim_tag};
 
 use crate::result::{CLAIM_NUMBER_LEN, LeftBetween, push_between};
-use crate::{JournalCall, ReplyItem, tags};
+use crate::{Format, JournalCall, ReplyItem, tags};
 use byteorder::{BigEndian, ByteOrder};
 use io_caps::{Bytes, ListOf, NoMemory};
 use std::alloc::Global;
@@ -25,19 +25,21 @@ const _: () = prove!(CLAIM_HEAD_LEN == 13);
 /// takes time in proportion to what is written and to the numbers.
 pub fn write_between(
     alloc: Global,
+    format: Format,
     calls: &[JournalCall],
     replies: &[ReplyItem],
     numbers: u64,
 ) -> Result<ListOf<Bytes>, NoMemory>
-    requires { AreLeft 0 calls.now replies.now }
-    ensures { IfOk result (λ made. made ≡ map (λ number. between_bytes number calls.now replies.now)
+    requires { AreLeft format 0 calls.now replies.now }
+    ensures { IfOk result (λ made. made
+        ≡ map (λ number. between_bytes format number calls.now replies.now)
         (range_with_len 0 numbers)) }
 {
     let mut made = ListOf::new(alloc);
     let mut left = LeftBetween { calls, replies };
     for number in 0..numbers {
         let mut text = Vec::new(alloc);
-        left = push_between(alloc, &mut text, &left, number)?;
+        left = push_between(alloc, &mut text, format, &left, number)?;
         made.push(Bytes::from_vec(text))?;
     }
     Ok(made)

@@ -10,7 +10,7 @@ ghost use Rattle.capture_file.specs.Replies.{HoldsReply, HoldsPending};
 ghost use Rattle.exact_text.specs.Forms.{counted};
 
 use crate::writing::{push_action, push_cell, push_moment, push_time, put64};
-use crate::{Activation, ActiveView, PendingItem, Refusal, Reply, When, tags};
+use crate::{Activation, ActiveView, Format, PendingItem, Refusal, Reply, When, tags};
 use io_caps::NoMemory;
 use map_entry::{Cell, Row, RowFault};
 
@@ -38,19 +38,19 @@ fn push_when(out: &mut Vec<u8>, value: When) -> Result<(), NoMemory>
 }
 
 #[tactic(auto, using(crate::proofs::Steps::put), unfolding(crate::specs::Replies::shown))]
-fn push_shown(out: &mut Vec<u8>, value: &Activation) -> Result<(), NoMemory>
-    ensures ok { OnOk result (out.new.items ≡ out.old.items ++ shown.text value.now) }
+fn push_shown(out: &mut Vec<u8>, format: Format, value: &Activation) -> Result<(), NoMemory>
+    ensures ok { OnOk result (out.new.items ≡ out.old.items ++ (shown format).text value.now) }
     ensures grows { Grows out.old.items out.new.items }
 {
     put64(out, value.id)?;
     push_when(out, value.when)?;
-    push_moment(out, value.tick, value.offset)?;
+    push_moment(out, format, value.tick, value.offset)?;
     Ok(())
 }
 
 #[tactic(auto, using(crate::proofs::Steps::put), unfolding(crate::specs::Replies::last))]
-fn push_last(out: &mut Vec<u8>, value: &Option<Activation>) -> Result<(), NoMemory>
-    ensures ok { OnOk result (out.new.items ≡ out.old.items ++ last.text value.now) }
+fn push_last(out: &mut Vec<u8>, format: Format, value: &Option<Activation>) -> Result<(), NoMemory>
+    ensures ok { OnOk result (out.new.items ≡ out.old.items ++ (last format).text value.now) }
     ensures grows { Grows out.old.items out.new.items }
 {
     match value {
@@ -60,14 +60,14 @@ fn push_last(out: &mut Vec<u8>, value: &Option<Activation>) -> Result<(), NoMemo
         }
         Some(last) => {
             out.push(1)?;
-            push_shown(out, last)?;
+            push_shown(out, format, last)?;
             Ok(())
         }
     }
 }
 
 #[tactic(auto, using(exact_text::proofs::Growth::growth))]
-fn push_row(out: &mut Vec<u8>, row: &[Cell]) -> Result<(), NoMemory>
+pub(crate) fn push_row(out: &mut Vec<u8>, row: &[Cell]) -> Result<(), NoMemory>
     ensures ok { OnOk result (out.new.items ≡ out.old.items ++ flat_map cell.text row.now) }
     ensures grows { Grows out.old.items out.new.items }
 {
@@ -90,37 +90,37 @@ fn push_rows(out: &mut Vec<u8>, rows: &[Row]) -> Result<(), NoMemory>
 }
 
 #[tactic(auto, using(crate::proofs::Steps::put), unfolding(crate::specs::Replies::view, crate::specs::Replies::rows))]
-fn push_view(out: &mut Vec<u8>, value: &ActiveView) -> Result<(), NoMemory>
-    ensures ok { OnOk result (out.new.items ≡ out.old.items ++ (view []).text value.now) }
+fn push_view(out: &mut Vec<u8>, format: Format, value: &ActiveView) -> Result<(), NoMemory>
+    ensures ok { OnOk result (out.new.items ≡ out.old.items ++ (view format []).text value.now) }
     ensures grows { Grows out.old.items out.new.items }
 {
-    push_last(out, &value.last)?;
+    push_last(out, format, &value.last)?;
     push_rows(out, value.rows.as_slice())?;
     Ok(())
 }
 
 #[tactic(auto, using(crate::proofs::Steps::put), unfolding(crate::specs::Replies::pending))]
-fn push_pending_item(out: &mut Vec<u8>, value: &PendingItem) -> Result<(), NoMemory>
-    requires { pending.Fits value.now }
-    ensures ok { OnOk result (out.new.items ≡ out.old.items ++ pending.text value.now) }
+fn push_pending_item(out: &mut Vec<u8>, format: Format, value: &PendingItem) -> Result<(), NoMemory>
+    requires { (pending format).Fits value.now }
+    ensures ok { OnOk result (out.new.items ≡ out.old.items ++ (pending format).text value.now) }
     ensures grows { Grows out.old.items out.new.items }
 {
     put64(out, value.id)?;
     push_when(out, value.when)?;
-    push_moment(out, value.tick, value.offset)?;
+    push_moment(out, format, value.tick, value.offset)?;
     push_action(out, &value.action)?;
     Ok(())
 }
 
 #[tactic(auto, using(exact_text::proofs::Growth::growth))]
-fn push_pending(out: &mut Vec<u8>, items: &[PendingItem]) -> Result<(), NoMemory>
-    requires { HoldsPending items.now }
-    ensures ok { OnOk result (out.new.items ≡ out.old.items ++ (counted pending).text items.now) }
+fn push_pending(out: &mut Vec<u8>, format: Format, items: &[PendingItem]) -> Result<(), NoMemory>
+    requires { HoldsPending format items.now }
+    ensures ok { OnOk result (out.new.items ≡ out.old.items ++ (counted (pending format)).text items.now) }
     ensures grows { Grows out.old.items out.new.items }
 {
     out.push(items.len() as u8)?;
     for item in items {
-        push_pending_item(out, item)?;
+        push_pending_item(out, format, item)?;
     }
     Ok(())
 }
@@ -143,8 +143,13 @@ fn push_row_fault(out: &mut Vec<u8>, value: RowFault) -> Result<(), NoMemory>
 }
 
 #[tactic(auto, using(crate::proofs::Steps::put), unfolding(crate::specs::Replies::reply, crate::specs::Replies::refusal))]
-pub(crate) fn push_refusal(out: &mut Vec<u8>, value: Refusal) -> Result<(), NoMemory>
-    ensures ok { OnOk result (out.new.items ≡ out.old.items ++ (reply []).text (Refused value)) }
+pub(crate) fn push_refusal(
+    out: &mut Vec<u8>,
+    format: Format,
+    value: Refusal,
+) -> Result<(), NoMemory>
+    ensures ok { OnOk result (out.new.items
+        ≡ out.old.items ++ (reply format []).text (Refused value)) }
     ensures grows { Grows out.old.items out.new.items }
 {
     match value {
@@ -178,22 +183,27 @@ pub(crate) fn push_refusal(out: &mut Vec<u8>, value: Refusal) -> Result<(), NoMe
 
 /// Writes a plain reply.
 #[tactic(auto, using(crate::proofs::Steps::put), unfolding(crate::specs::Replies::reply))]
-pub(crate) fn push_plain_reply(out: &mut Vec<u8>, value: &Reply) -> Result<(), NoMemory>
-    requires { HoldsReply value.now }
-    ensures ok { OnOk result (out.new.items ≡ out.old.items ++ (reply []).text value.now) }
+pub(crate) fn push_plain_reply(
+    out: &mut Vec<u8>,
+    format: Format,
+    value: &Reply,
+) -> Result<(), NoMemory>
+    requires { HoldsReply format value.now }
+    ensures ok { OnOk result (out.new.items
+        ≡ out.old.items ++ (reply format []).text value.now) }
     ensures grows { Grows out.old.items out.new.items }
 {
     match value {
         Reply::Activated { id, tick, offset } => {
             out.push(tags::ACTIVATED)?;
             put64(out, *id)?;
-            push_moment(out, *tick, *offset)?;
+            push_moment(out, format, *tick, *offset)?;
             Ok(())
         }
         Reply::Scheduled { id, tick, offset } => {
             out.push(tags::SCHEDULED)?;
             put64(out, *id)?;
-            push_moment(out, *tick, *offset)?;
+            push_moment(out, format, *tick, *offset)?;
             Ok(())
         }
         Reply::Deleted { id } => {
@@ -203,16 +213,16 @@ pub(crate) fn push_plain_reply(out: &mut Vec<u8>, value: &Reply) -> Result<(), N
         }
         Reply::Active(view) => {
             out.push(tags::ACTIVE)?;
-            push_view(out, view)?;
+            push_view(out, format, view)?;
             Ok(())
         }
         Reply::Pending(items) => {
             out.push(tags::PENDING)?;
-            push_pending(out, items.as_slice())?;
+            push_pending(out, format, items.as_slice())?;
             Ok(())
         }
         Reply::Refused(refusal) => {
-            push_refusal(out, *refusal)?;
+            push_refusal(out, format, *refusal)?;
             Ok(())
         }
     }

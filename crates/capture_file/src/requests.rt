@@ -58,7 +58,7 @@ impl Reads<OutputChange> for CaptureForm {
 }
 
 #[tactic(auto, using(crate::proofs::Order::tests), unfolding(crate::specs::Requests::action))]
-fn read_action(alloc: Global, bytes: &[u8]) -> Result<(Action, &[u8]), Misread>
+pub(crate) fn read_action(alloc: Global, bytes: &[u8]) -> Result<(Action, &[u8]), Misread>
     ensures { Gives (λ x. (x.0, x.1.now)) result (action.read bytes.now) }
 {
     let (count, rest) = byte(bytes)?;
@@ -70,7 +70,7 @@ fn read_action(alloc: Global, bytes: &[u8]) -> Result<(Action, &[u8]), Misread>
 }
 
 /// The time of these parts, where they are in range.
-fn time_of(secs: u64, nanos: u32) -> Result<Tai, Misread>
+pub(crate) fn time_of(secs: u64, nanos: u32) -> Result<Tai, Misread>
     ensures { Gives (λ x. x) result (tested (is_time (secs, nanos)) (time_made (secs, nanos))) }
 {
     if secs < SECS_LIMIT && nanos < NANOS_PER_SECOND {

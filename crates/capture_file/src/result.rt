@@ -14,7 +14,7 @@ ghost use Rattle.capture_file.specs.Parts.{AreHeld, AreLeft, IsHeld, IsLeft};
 use crate::replies::push_plain_reply;
 use crate::runs::split_run;
 use crate::writing::{push_moment, push_request, put64};
-use crate::{ClaimItem, History, JournalCall, ReplyItem, Said, tags};
+use crate::{ClaimItem, Format, History, JournalCall, ReplyItem, Said, result_magic, tags};
 use exact_text::{push_record, push32};
 use io_caps::{Device, NoMemory};
 use std::alloc::Global;
@@ -53,35 +53,44 @@ fn push_claim(out: &mut Vec<u8>, value: &ClaimItem) -> Result<(), NoMemory>
 
 /// The body of the record of an accepted call.
 #[tactic(auto, using(exact_text::proofs::FormLaws::joined), unfolding(crate::specs::Result::call))]
-fn call_body(alloc: Global, value: &JournalCall) -> Result<Vec<u8>, NoMemory>
-    requires { FitsCall value.now }
-    ensures { IfOk result (λ body. body.items ≡ call.text value.now) }
+fn call_body(alloc: Global, format: Format, value: &JournalCall) -> Result<Vec<u8>, NoMemory>
+    requires { FitsCall format value.now }
+    ensures { IfOk result (λ body. body.items ≡ (call format).text value.now) }
 {
     let mut body = Vec::new(alloc);
     put64(&mut body, value.at)?;
     body.push(value.client)?;
     put64(&mut body, value.id)?;
-    push_moment(&mut body, value.tick, value.offset)?;
+    push_moment(&mut body, format, value.tick, value.offset)?;
     push_request(&mut body, &value.request)?;
     Ok(body)
 }
 
 #[tactic(auto, using(exact_text::proofs::Growth::growth, crate::proofs::Lengths::call_short))]
-fn push_call(alloc: Global, out: &mut Vec<u8>, value: &JournalCall) -> Result<(), NoMemory>
-    requires { FitsCall value.now }
-    ensures ok { OnOk result (out.new.items ≡ out.old.items ++ call_bytes value.now) }
+fn push_call(
+    alloc: Global,
+    out: &mut Vec<u8>,
+    format: Format,
+    value: &JournalCall,
+) -> Result<(), NoMemory>
+    requires { FitsCall format value.now }
+    ensures ok { OnOk result (out.new.items ≡ out.old.items ++ call_bytes format value.now) }
     ensures grows { Grows out.old.items out.new.items }
 {
-    let body = call_body(alloc, value)?;
+    let body = call_body(alloc, format, value)?;
     push_record(out, tags::CALL, &body)?;
     Ok(())
 }
 
 /// The body of the record of a reply.
 #[tactic(auto, using(exact_text::proofs::FormLaws::joined), unfolding(crate::specs::Result::reply, crate::specs::Result::said))]
-pub(crate) fn reply_body(alloc: Global, value: &ReplyItem) -> Result<Vec<u8>, NoMemory>
-    requires { HoldsSaid value.now.said }
-    ensures { IfOk result (λ body. body.items ≡ (reply []).text value.now) }
+pub(crate) fn reply_body(
+    alloc: Global,
+    format: Format,
+    value: &ReplyItem,
+) -> Result<Vec<u8>, NoMemory>
+    requires { HoldsSaid format value.now.said }
+    ensures { IfOk result (λ body. body.items ≡ (reply format []).text value.now) }
 {
     let mut body = Vec::new(alloc);
     body.push(value.client)?;
@@ -90,7 +99,7 @@ pub(crate) fn reply_body(alloc: Global, value: &ReplyItem) -> Result<Vec<u8>, No
     match &value.said {
         Said::Plain(reply) => {
             body.push(tags::PLAIN_FORM)?;
-            push_plain_reply(&mut body, reply)?;
+            push_plain_reply(&mut body, format, reply)?;
         }
         Said::Http(bytes) => {
             body.push(tags::HTTP_FORM)?;
@@ -101,36 +110,53 @@ pub(crate) fn reply_body(alloc: Global, value: &ReplyItem) -> Result<Vec<u8>, No
 }
 
 #[tactic(auto, using(exact_text::proofs::Growth::growth))]
-fn push_reply(alloc: Global, out: &mut Vec<u8>, value: &ReplyItem) -> Result<(), NoMemory>
-    requires { HoldsItem value.now }
-    ensures ok { OnOk result (out.new.items ≡ out.old.items ++ reply_bytes value.now) }
+fn push_reply(
+    alloc: Global,
+    out: &mut Vec<u8>,
+    format: Format,
+    value: &ReplyItem,
+) -> Result<(), NoMemory>
+    requires { HoldsItem format value.now }
+    ensures ok { OnOk result (out.new.items ≡ out.old.items ++ reply_bytes format value.now) }
     ensures grows { Grows out.old.items out.new.items }
 {
-    let body = reply_body(alloc, value)?;
+    let body = reply_body(alloc, format, value)?;
     push_record(out, tags::REPLY, &body)?;
     Ok(())
 }
 
 #[tactic(auto, using(exact_text::proofs::Growth::growth))]
-fn push_calls(alloc: Global, out: &mut Vec<u8>, calls: &[JournalCall]) -> Result<(), NoMemory>
-    requires { AllByRecursion FitsCall calls.now }
-    ensures ok { OnOk result (out.new.items ≡ out.old.items ++ flat_map call_bytes calls.now) }
+fn push_calls(
+    alloc: Global,
+    out: &mut Vec<u8>,
+    format: Format,
+    calls: &[JournalCall],
+) -> Result<(), NoMemory>
+    requires { AllByRecursion (FitsCall format) calls.now }
+    ensures ok { OnOk result (out.new.items
+        ≡ out.old.items ++ flat_map (call_bytes format) calls.now) }
     ensures grows { Grows out.old.items out.new.items }
 {
     for one in calls {
-        push_call(alloc, out, one)?;
+        push_call(alloc, out, format, one)?;
     }
     Ok(())
 }
 
 #[tactic(auto, using(exact_text::proofs::Growth::growth))]
-fn push_replies(alloc: Global, out: &mut Vec<u8>, replies: &[ReplyItem]) -> Result<(), NoMemory>
-    requires { AllByRecursion HoldsItem replies.now }
-    ensures ok { OnOk result (out.new.items ≡ out.old.items ++ flat_map reply_bytes replies.now) }
+fn push_replies(
+    alloc: Global,
+    out: &mut Vec<u8>,
+    format: Format,
+    replies: &[ReplyItem],
+) -> Result<(), NoMemory>
+    requires { AllByRecursion (HoldsItem format) replies.now }
+    ensures ok { OnOk result (out.new.items
+        ≡ out.old.items ++ flat_map (reply_bytes format) replies.now) }
     ensures grows { Grows out.old.items out.new.items }
 {
     for one in replies {
-        push_reply(alloc, out, one)?;
+        push_reply(alloc, out, format, one)?;
     }
     Ok(())
 }
@@ -160,20 +186,21 @@ pub(crate) struct LeftBetween<'a> {
 pub(crate) fn push_between<'a>(
     alloc: Global,
     out: &mut Vec<u8>,
+    format: Format,
     left: &LeftBetween<'a>,
     number: u64,
 ) -> Result<LeftBetween<'a>, NoMemory>
-    requires { AreLeft number left.now.calls.now left.now.replies.now }
+    requires { AreLeft format number left.now.calls.now left.now.replies.now }
     ensures ok { OnOk result (out.new.items
-        ≡ out.old.items ++ between_bytes number left.now.calls.now left.now.replies.now) }
+        ≡ out.old.items ++ between_bytes format number left.now.calls.now left.now.replies.now) }
     ensures held { IfOk result (λ later. AreHeld (number + 1) left.now.calls.now
         left.now.replies.now later.calls.now later.replies.now) }
     ensures grows { Grows out.old.items out.new.items }
 {
     let (now, calls) = split_run(left.calls, number);
-    push_calls(alloc, out, now)?;
+    push_calls(alloc, out, format, now)?;
     let (now, replies) = split_run(left.replies, number);
-    push_replies(alloc, out, now)?;
+    push_replies(alloc, out, format, now)?;
     Ok(LeftBetween { calls, replies })
 }
 
@@ -190,19 +217,20 @@ pub(crate) struct Left<'a> {
 fn push_at<'a>(
     alloc: Global,
     out: &mut Vec<u8>,
+    format: Format,
     left: &Left<'a>,
     number: u64,
 ) -> Result<Left<'a>, NoMemory>
-    requires { IsLeft number left.now.between.calls.now left.now.between.replies.now
+    requires { IsLeft format number left.now.between.calls.now left.now.between.replies.now
         left.now.claims.now }
-    ensures ok { OnOk result (out.new.items ≡ out.old.items ++ bytes_at number
+    ensures ok { OnOk result (out.new.items ≡ out.old.items ++ bytes_at format number
         left.now.between.calls.now left.now.between.replies.now left.now.claims.now) }
     ensures held { IfOk result (λ later. IsHeld (number + 1) left.now.between.calls.now
         left.now.between.replies.now left.now.claims.now later.between.calls.now
         later.between.replies.now later.claims.now) }
     ensures grows { Grows out.old.items out.new.items }
 {
-    let between = push_between(alloc, out, &left.between, number)?;
+    let between = push_between(alloc, out, format, &left.between, number)?;
     let (now, claims) = split_run(left.claims, number);
     push_claims(out, now)?;
     Ok(Left { between, claims })
@@ -214,14 +242,15 @@ fn push_at<'a>(
 pub(crate) fn push_range<'a>(
     alloc: Global,
     out: &mut Vec<u8>,
+    format: Format,
     all: &Left<'a>,
     from: u64,
     to: u64,
 ) -> Result<Left<'a>, NoMemory>
     requires range { from ≤ to }
-    requires left { IsLeft from all.now.between.calls.now all.now.between.replies.now
+    requires left { IsLeft format from all.now.between.calls.now all.now.between.replies.now
         all.now.claims.now }
-    ensures ok { OnOk result (out.new.items ≡ out.old.items ++ range_bytes from (to - from)
+    ensures ok { OnOk result (out.new.items ≡ out.old.items ++ range_bytes format from (to - from)
         all.now.between.calls.now all.now.between.replies.now all.now.claims.now) }
     ensures held { IfOk result (λ later. IsHeld to all.now.between.calls.now
         all.now.between.replies.now all.now.claims.now later.between.calls.now
@@ -230,23 +259,24 @@ pub(crate) fn push_range<'a>(
 {
     let mut left = *all;
     for number in from..to {
-        left = push_at(alloc, out, &left, number)?;
+        left = push_at(alloc, out, format, &left, number)?;
     }
     Ok(left)
 }
 
-/// Writes a whole history of this device as a result after what is there, in time linear in the
-/// history. If memory runs out, what was there stays, and more may follow it.
+/// Writes a whole history of this device as a result of a format after what is there, in time linear
+/// in the history. If memory runs out, what was there stays, and more may follow it.
 #[tactic(auto, using(exact_text::proofs::Growth::growth))]
 pub fn write_result(
     alloc: Global,
     _device: &Device,
+    format: Format,
     history: &History,
     out: &mut Vec<u8>,
 ) -> Result<(), NoMemory>
-    requires { FitsHistory _device.now history.now }
+    requires { FitsHistory format _device.now history.now }
     ensures ok { OnOk result (out.new.items
-        ≡ out.old.items ++ result_text _device.now history.now) }
+        ≡ out.old.items ++ result_text format _device.now history.now) }
     // Nothing of the history is left out.
     ensures shows { ShowsAll history.now }
     ensures grows { Grows out.old.items out.new.items }
@@ -256,9 +286,9 @@ pub fn write_result(
         replies: history.replies.as_slice(),
     };
     let claims = history.claims.as_slice();
-    out.extend_from_slice(tags::RESULT_MAGIC)?;
+    out.extend_from_slice(result_magic(format))?;
     let all = Left { between, claims };
-    push_range(alloc, out, &all, 0, claims.len() as u64 + 1)?;
+    push_range(alloc, out, format, &all, 0, claims.len() as u64 + 1)?;
     push_record(out, tags::END, &[])?;
     Ok(())
 }

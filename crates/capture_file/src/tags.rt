@@ -1,10 +1,16 @@
 //! The numbers by which the bytes of captures and results are told apart. (This project's own.)
 
-/// The first bytes of a capture: `CHMCAP1` and a line feed.
+/// The first bytes of a capture of format 1: `CHMCAP1` and a line feed.
 pub const CAPTURE_MAGIC: &[u8] = b"CHMCAP1\n";
 
-/// The first bytes of a result: `CHMRES1` and a line feed.
+/// The first bytes of a capture of format 2: `CHMCAP2` and a line feed.
+pub const CAPTURE_MAGIC_2: &[u8] = b"CHMCAP2\n";
+
+/// The first bytes of a result of format 1: `CHMRES1` and a line feed.
 pub const RESULT_MAGIC: &[u8] = b"CHMRES1\n";
+
+/// The first bytes of a result of format 2: `CHMRES2` and a line feed.
+pub const RESULT_MAGIC_2: &[u8] = b"CHMRES2\n";
 
 /// `D`: a plain device, in a capture.
 pub const DEVICE: u8 = 0x44;
@@ -55,6 +61,21 @@ const _: () = prove!(REPLY == 82);
 pub const END: u8 = 0x45;
 
 const _: () = prove!(END == 69);
+
+/// `G`: the grain, in a capture of format 2.
+pub const GRAIN: u8 = 0x47;
+
+const _: () = prove!(GRAIN == 71);
+
+/// The grain whose changes count from ticks.
+pub const TICK_GRAIN: u8 = 0;
+
+const _: () = prove!(TICK_GRAIN == 0);
+
+/// The grain whose changes count from frames.
+pub const FRAME_GRAIN: u8 = 1;
+
+const _: () = prove!(FRAME_GRAIN == 1);
 
 /// The bits of a sample of L16 (RFC 3551, section 4.5.11).
 pub const BITS_16: u8 = 16;

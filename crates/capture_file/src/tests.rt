@@ -7,15 +7,16 @@ ghost use Rattle.book_words.specs.History.{claim_item, reply_item};
 ghost use Rattle.book_words.specs.declared.history.Said.TheVariants.{Http};
 ghost use Rattle.capture_file.specs.Parts.{AreLeft};
 ghost use Rattle.capture_file.specs.Result.{FitsHistory};
+ghost use Rattle.capture_file.specs.declared.format.Format.TheVariants.{One};
 
 use crate::CaptureKind::{Body, Cut, Device, Magic, Order, Tag, Work};
 use crate::replies::{push_plain_reply, push_refusal};
 use crate::result::reply_body;
 use crate::{
     Activation, ActiveView, CLAIM_HEAD_LEN, CaptureFault, CaptureKind, ClaimItem, ClaimItems,
-    History, Item, Journal, JournalCall, RESULT_MAGIC, Refusal, Reply, ReplyItem, ReplyItems,
-    Request, ResultItem, Said, Stamp, When, end_record, read_capture, write_between,
-    write_claim_front, write_result,
+    ClaimRecord, Format, History, Item, Journal, JournalCall, RecordBytes, Refusal, Reply,
+    ReplyItem, ReplyItems, Request, ResultItem, Said, Stamp, When, end_record, read_capture,
+    result_magic, write_between, write_claim_front, write_result,
 };
 use io_caps::{Bytes, Flags, NoMemory, Or, TryCopy};
 use map_entry::{Cell, Row, RowFault, Rows};
@@ -44,7 +45,7 @@ const MID_TICK: &str = "50 00000015 00 8060 0000 00000004 00000063 1111 2222 333
 const PLACES: [u64; 6] = [8, 65, 91, 100, 118, 127];
 
 /// Adds the bytes of hexadecimal digits. Other characters part them.
-fn add_hex(out: &mut Vec<u8>, digits: &str) -> Result<(), NoMemory> {
+pub(crate) fn add_hex(out: &mut Vec<u8>, digits: &str) -> Result<(), NoMemory> {
     let mut high: Option<u8> = None;
     for digit in digits.bytes() {
         let value = match digit {
@@ -63,7 +64,7 @@ fn add_hex(out: &mut Vec<u8>, digits: &str) -> Result<(), NoMemory> {
     Ok(())
 }
 
-fn hex(alloc: Global, digits: &str) -> Result<Vec<u8>, NoMemory> {
+pub(crate) fn hex(alloc: Global, digits: &str) -> Result<Vec<u8>, NoMemory> {
     let mut made = Vec::new(alloc);
     add_hex(&mut made, digits)?;
     Ok(made)
@@ -477,7 +478,11 @@ fn parts_copied(rt: HostRuntime) -> Result<(), Fail> {
     assert!(rt; is_copied(Cut)?);
     assert!(rt; is_copied(CaptureFault { at: 3, kind: Body })?);
     let alloc = rt.alloc();
-    let claim = ClaimItem::new(4, Flags::new(alloc), Bytes::new(alloc));
+    let claim = ClaimRecord {
+        k: 4,
+        found: Flags::new(alloc),
+        packet: RecordBytes::new(b"p"),
+    };
     let copied = ResultItem::Claim(claim).copy()?;
     assert!(rt; matches!(&copied, ResultItem::Claim(claim) if claim.k == 4));
     Ok(())
@@ -537,7 +542,7 @@ const REFUSALS: [(Refusal, &str); 11] = [
 fn refusals_written(rt: HostRuntime) -> Result<(), Fail> {
     for (refusal, digits) in REFUSALS {
         let mut out = Vec::new(rt.alloc());
-        push_refusal(&mut out, refusal)?;
+        push_refusal(&mut out, Format::One, refusal)?;
         assert!(rt; out == hex(rt.alloc(), digits)?);
     }
     Ok(())
@@ -551,14 +556,14 @@ fn accepted_written(rt: HostRuntime) -> Result<(), Fail> {
         tick: 2,
         offset: 0,
     };
-    push_plain_reply(&mut out, &activated)?;
+    push_plain_reply(&mut out, Format::One, &activated)?;
     let scheduled = Reply::Scheduled {
         id: 3,
         tick: 4,
         offset: 0,
     };
-    push_plain_reply(&mut out, &scheduled)?;
-    push_plain_reply(&mut out, &Reply::Deleted { id: 5 })?;
+    push_plain_reply(&mut out, Format::One, &scheduled)?;
+    push_plain_reply(&mut out, Format::One, &Reply::Deleted { id: 5 })?;
     let digits = "00 0000000000000001 0000000000000002 01 0000000000000003 0000000000000004
         02 0000000000000005";
     assert!(rt; out == hex(rt.alloc(), digits)?);
@@ -576,7 +581,7 @@ fn response_written(rt: HostRuntime) -> Result<(), Fail> {
         claims: 258,
     };
     let item = ReplyItem::new(15, place, Said::Http(bytes)).copy()?;
-    let body = reply_body(rt.alloc(), &item)?;
+    let body = reply_body(rt.alloc(), Format::One, &item)?;
     let digits = "0f 0000000000000001 0000000000000102 00 48545450";
     assert!(rt; body == hex(rt.alloc(), digits)?);
     Ok(())
@@ -605,7 +610,11 @@ fn active_written(rt: HostRuntime) -> Result<(), Fail> {
         offset: 0,
     });
     let mut out = Vec::new(rt.alloc());
-    push_plain_reply(&mut out, &Reply::Active(ActiveView { last, rows }))?;
+    push_plain_reply(
+        &mut out,
+        Format::One,
+        &Reply::Active(ActiveView { last, rows }),
+    )?;
     let digits = "03 01 0000000000000006 01 0000000000000007 00000008 0000000000000009 ff00 0102";
     assert!(rt; out == hex(rt.alloc(), digits)?);
     Ok(())
@@ -633,7 +642,7 @@ fn response(alloc: Global, client: u8, stamp: Stamp, byte: u8) -> Result<ReplyIt
 
 /// Three claims, and calls and replies in front of the first, between two, and after the last.
 fn three_claims(alloc: Global) -> Result<History, NoMemory>
-    ensures { (d : DeviceParts) → IsDevice d → length d.inputs ≡ 1 → IfOk result (FitsHistory d) }
+    ensures { (d : DeviceParts) → IsDevice d → length d.inputs ≡ 1 → IfOk result (FitsHistory One d) }
 {
     let mut journal = Journal::new(alloc);
     journal.push(JournalCall::new(0, 2, 1, 5, 0, Request::Active))?;
@@ -680,14 +689,20 @@ fn three_claims(alloc: Global) -> Result<History, NoMemory>
 
 /// The text of a history, put together of its parts.
 fn by_hand(alloc: Global, history: &History) -> Result<Vec<u8>, Fail>
-    requires { AreLeft 0 history.now.journal history.now.replies }
+    requires { AreLeft One 0 history.now.journal history.now.replies }
 {
     let claims = history.claims.as_slice();
     let numbers = claims.len() as u64 + 1;
     let calls = history.journal.as_slice();
-    let between = write_between(alloc, calls, history.replies.as_slice(), numbers)?;
+    let between = write_between(
+        alloc,
+        Format::One,
+        calls,
+        history.replies.as_slice(),
+        numbers,
+    )?;
     let mut text = Vec::new(alloc);
-    text.extend_from_slice(RESULT_MAGIC)?;
+    text.extend_from_slice(result_magic(Format::One))?;
     for (number, records) in between.as_slice().iter().enumerate() {
         text.extend_from_slice(records.as_slice())?;
         if number < claims.len() {
@@ -717,7 +732,7 @@ fn result_by_hand(rt: HostRuntime) -> Result<(), Fail> {
     }
     let history = three_claims(rt.alloc())?;
     let mut text = Vec::new(rt.alloc());
-    write_result(rt.alloc(), device, &history, &mut text)?;
+    write_result(rt.alloc(), device, Format::One, &history, &mut text)?;
     assert!(rt; text == by_hand(rt.alloc(), &history)?);
     Ok(())
 }

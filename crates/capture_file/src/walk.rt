@@ -26,12 +26,18 @@ pub struct RecordFault<F> {
 
 /// What records are judged by: what stands before them.
 pub trait Judge<'a, E, F>: Drop {
-    /// What a record, by its tag and its body, does to this, or its fault.
-    ghost judges: { Self → ℕ → List ℕ → Result (Step Self E) F → Type 0 };
+    /// What a record, by its place, its tag and its body, does to this, or its fault.
+    ghost judges: { Self → ℕ → ℕ → List ℕ → Result (Step Self E) F → Type 0 };
 
-    /// Takes a record, or says its fault.
-    fn judge(self, alloc: Global, tag: u8, body: &'a [u8]) -> Result<Step<Self, E>, Or<F>>
-        ensures { IsJudged (judges self tag body.now) result };
+    /// Takes the record at a place, or says its fault.
+    fn judge(
+        self,
+        alloc: Global,
+        at: usize,
+        tag: u8,
+        body: &'a [u8],
+    ) -> Result<Step<Self, E>, Or<F>>
+        ensures { IsJudged (judges self at tag body.now) result };
 }
 
 /// What all records up to the last one come to, and the place after it; or the first fault, with
@@ -57,7 +63,7 @@ pub fn walk<'a, S: Judge<'a, E, F>, E: Drop, F: Drop>(
             Ok(found) => found,
             Err(_) => return Err(Or::Fault(RecordFault { at, fault: cut })),
         };
-        match state.judge(alloc, tag, body) {
+        match state.judge(alloc, at, tag, body) {
             Ok(Step::Next(next)) => {
                 state = next;
                 rest = after;

@@ -4,17 +4,18 @@ ghost use Rattle.std.specs.Prelude.{◌≡◌, ◌++◌, OnOk};
 ghost use Rattle.std.specs.List.{flat_map};
 ghost use Rattle.exact_text.specs.Forms.{number_text};
 ghost use Rattle.exact_text.specs.Spellings.{Grows};
-ghost use Rattle.capture_file.specs.Requests.{cell, change, output_change, action, time, moment};
+ghost use Rattle.capture_file.specs.Formats.{moment, offset_field};
+ghost use Rattle.capture_file.specs.Requests.{cell, change, output_change, action, time};
 ghost use Rattle.capture_file.specs.Requests.{request};
 
-use crate::{Request, When, tags};
-use exact_text::{push32, push64};
+use crate::{Format, Request, When, tags};
+use exact_text::{push16, push32, push64};
 use io_caps::NoMemory;
 use map_entry::{Action, Cell, Change, OutputChange};
 use tai_time::Tai;
 
 #[tactic(auto, using(crate::proofs::Steps::put), unfolding(exact_text::specs::Forms::number_text))]
-fn put32(out: &mut Vec<u8>, number: u32) -> Result<(), NoMemory>
+pub(crate) fn put32(out: &mut Vec<u8>, number: u32) -> Result<(), NoMemory>
     ensures ok { OnOk result (out.new.items ≡ out.old.items ++ number_text 4 number) }
     ensures grows { Grows out.old.items out.new.items }
 {
@@ -102,13 +103,45 @@ pub(crate) fn push_time(out: &mut Vec<u8>, value: Tai) -> Result<(), NoMemory>
     Ok(())
 }
 
-/// Writes a tick, and the frame of it from which something counts, for which there is no field.
-#[tactic(auto, using(crate::proofs::Steps::put), unfolding(crate::specs::Requests::moment))]
-pub(crate) fn push_moment(out: &mut Vec<u8>, tick: u64, _offset: u16) -> Result<(), NoMemory>
-    ensures ok { OnOk result (out.new.items ≡ out.old.items ++ moment.text (tick, _offset)) }
+#[tactic(auto, using(crate::proofs::Steps::put), unfolding(exact_text::specs::Forms::number_text))]
+pub(crate) fn put16(out: &mut Vec<u8>, number: u16) -> Result<(), NoMemory>
+    ensures ok { OnOk result (out.new.items ≡ out.old.items ++ number_text 2 number) }
+    ensures grows { Grows out.old.items out.new.items }
+{
+    push16(out, number)?;
+    Ok(())
+}
+
+/// Writes the frame of a tick from which something counts, where the format has a field for it.
+#[tactic(auto, using(crate::proofs::Steps::put), unfolding(crate::specs::Formats::offset_field))]
+fn push_offset(out: &mut Vec<u8>, format: Format, offset: u16) -> Result<(), NoMemory>
+    ensures ok { OnOk result (out.new.items
+        ≡ out.old.items ++ (offset_field format).text offset) }
+    ensures grows { Grows out.old.items out.new.items }
+{
+    match format {
+        Format::One => Ok(()),
+        Format::Two => {
+            put16(out, offset)?;
+            Ok(())
+        }
+    }
+}
+
+/// Writes a tick, and the frame of it from which something counts.
+#[tactic(auto, using(crate::proofs::Steps::put), unfolding(crate::specs::Formats::moment))]
+pub(crate) fn push_moment(
+    out: &mut Vec<u8>,
+    format: Format,
+    tick: u64,
+    offset: u16,
+) -> Result<(), NoMemory>
+    ensures ok { OnOk result (out.new.items
+        ≡ out.old.items ++ (moment format).text (tick, offset)) }
     ensures grows { Grows out.old.items out.new.items }
 {
     put64(out, tick)?;
+    push_offset(out, format, offset)?;
     Ok(())
 }
 

@@ -4,7 +4,7 @@ use Rattle.capture_file.proofs.parts.write_between.Goals as goal
 
 pub push_between-requires : goal.push_between-requires
 push_between-requires c =
-    between_left 0 c.loop-number.number c.args.calls.now _ c.args.replies.now _ c.requires
+    between_left c.args.format 0 c.loop-number.number c.args.calls.now _ c.args.replies.now _ c.requires
     c.loop-number.invariant.held
 
 pub loop-number-preserved : goal.loop-number-preserved
@@ -19,5 +19,5 @@ loop-number-preserved c =
         c.in_ok-left.ensures.ok,
         c.new-text.ensures.items,
       )
-          (made_more c.args.calls.now _ c.args.replies.now _ c.loop-number.number _ i.held i.made);
+          (made_more c.args.format c.args.calls.now _ c.args.replies.now _ c.loop-number.number _ i.held i.made);
     }

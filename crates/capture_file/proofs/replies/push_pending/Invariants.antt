@@ -5,5 +5,5 @@ use Rattle.capture_file.proofs.replies.push_pending.Given as goal
 
 abbrev pub invariant-loop-item : goal.invariant-loop-item
 invariant-loop-item l =
-    l.out.items ≡ l.fn.out.items ++ length l.items ∷ flat_map pending.text
+    l.out.items ≡ l.fn.out.items ++ length l.items ∷ flat_map (pending l.format).text
     (take l.item-index l.items)

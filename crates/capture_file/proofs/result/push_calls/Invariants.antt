@@ -5,4 +5,4 @@ use Rattle.capture_file.proofs.result.push_calls.Given as goal
 
 abbrev pub invariant-loop-one : goal.invariant-loop-one
 invariant-loop-one l =
-    l.out.items ≡ l.fn.out.items ++ flat_map call_bytes (take l.one-index l.calls)
+    l.out.items ≡ l.fn.out.items ++ flat_map (call_bytes l.format) (take l.one-index l.calls)

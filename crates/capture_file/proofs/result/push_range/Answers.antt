@@ -4,7 +4,7 @@ use Rattle.capture_file.proofs.result.push_range.Goals as goal
 
 pub push_at-requires : goal.push_at-requires
 push_at-requires c =
-    held_left c.args.from c.loop-number.number c.args.all.now.between.calls.now _
+    held_left c.args.format c.args.from c.loop-number.number c.args.all.now.between.calls.now _
     c.args.all.now.between.replies.now _
     c.args.all.now.claims.now _ c.requires.left c.loop-number.invariant.held
 
@@ -16,7 +16,7 @@ loop-number-preserved c =
           c.args.all.now.between.replies.now _ _
           c.args.all.now.claims.now _ _ i.held c.in_ok-left.ensures.held;
       above = omega (arith, i.above);
-      written = range_next c.args.out.now.items c.args.all.now.between.calls.now _
+      written = range_next c.args.format c.args.out.now.items c.args.all.now.between.calls.now _
           c.args.all.now.between.replies.now _
           c.args.all.now.claims.now _ c.args.from c.loop-number.number _ _ i.above i.held i.written
           c.in_ok-left.ensures.ok;

@@ -5,4 +5,4 @@ use Rattle.capture_file.proofs.result.push_replies.Given as goal
 
 abbrev pub invariant-loop-one : goal.invariant-loop-one
 invariant-loop-one l =
-    l.out.items ≡ l.fn.out.items ++ flat_map reply_bytes (take l.one-index l.replies)
+    l.out.items ≡ l.fn.out.items ++ flat_map (reply_bytes l.format) (take l.one-index l.replies)

@@ -9,7 +9,7 @@ returns-in_err-extend_from_slice-clause-shows c = shows_all c.args.history.now c
 pub push_range-requires-clause-left : goal.push_range-requires-clause-left
 push_range-requires-clause-left c =
     rw (c.as_slice.ensures, c.as_slice-2.ensures, c.as_slice-claims.ensures)
-    (whole_left c.args._device.now c.args.history.now c.requires)
+    (whole_left c.args.format c.args._device.now c.args.history.now c.requires)
 
 pub returns-in_err-push_range-clause-shows : goal.returns-in_err-push_range-clause-shows
 returns-in_err-push_range-clause-shows c = shows_all c.args.history.now c.requires.whole
@@ -26,8 +26,10 @@ returns-clause-ok c =
       c.as_slice-2.ensures,
       c.as_slice-claims.ensures,
       c.in_ok-extend_from_slice.ensures.items,
+      c.result_magic.ensures,
     )
-    (whole_text c.args._device.now c.args.history.now c.args.out.now.items _ (omega arith))
+    (whole_text c.args.format c.args._device.now c.args.history.now c.args.out.now.items _
+    (omega arith))
 
 pub returns-clause-shows : goal.returns-clause-shows
 returns-clause-shows c = shows_all c.args.history.now c.requires.whole

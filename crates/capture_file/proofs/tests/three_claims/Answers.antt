@@ -20,7 +20,8 @@ use Rattle.capture_file.specs.Device.{flag}
 use Rattle.capture_file.specs.Requests.{request}
 use Rattle.capture_file.specs.Result.{call, claim, reply, said}
 use Rattle.capture_file.specs.Result.{FitsCall, FitsClaim, FitsHistory, FitsReply}
-use Rattle.capture_file.proofs.RequestLaws.{moment_fits}
+use Rattle.capture_file.specs.declared.format.Format.TheVariants.{One}
+use Rattle.capture_file.proofs.FormatLaws.{moment_fits}
 use Rattle.capture_file.proofs.ResultLaws.{claim_same, length-claim}
 use Rattle.capture_file.proofs.tests.three_claims.Goals as goal
 
@@ -57,14 +58,14 @@ pending_fits = (
 )
 
 call_fits : (at client id tick : ℕ) (r : Request) → at + id + tick < 256 → client < 16
-    → request.Fits r → FitsCall (journal_call at client id tick 0 r)
+    → request.Fits r → FitsCall One (journal_call at client id tick 0 r)
 unfolding call
 call_fits at client id tick r few c fits = record {
   fits = (
     omega (arith, few),
     (
       omega (arith, c),
-      (omega (arith, few), (moment_fits tick 0 (omega (arith, few)) refl, fits)),
+      (omega (arith, few), (moment_fits One tick 0 (omega (arith, few)) refl, fits)),
     ),
   );
   client = c;
@@ -86,7 +87,7 @@ claim_fits d k byte b one lt =
     }
 
 reply_fits : (d : DeviceParts) (client calls claims byte : ℕ) → client < 16 → calls < 256
-    → claims < 256 → FitsReply d (reply_item client (stamp calls claims) (Http (byte ∷ [])))
+    → claims < 256 → FitsReply One d (reply_item client (stamp calls claims) (Http (byte ∷ [])))
 unfolding reply said
 reply_fits d client calls claims byte c n k =
     let rest = number_text 8 claims ++ (0 ∷ byte ∷ []) in
@@ -148,7 +149,7 @@ whole = record {
 }
 
 fits : (d : DeviceParts) → IsDevice d → length d.inputs ≡ 1
-    → FitsHistory d (history_of claims calls replies)
+    → FitsHistory One d (history_of claims calls replies)
 fits d device one = record {
   device = device;
   whole = whole;
@@ -156,7 +157,7 @@ fits d device one = record {
     claim_fits d 0 17 true one (omega arith),
     (claim_fits d 1 18 false one (omega arith), (claim_fits d 2 19 true one (omega arith), tt)),
   );
-  journal = All-from_recursion FitsCall calls (
+  journal = All-from_recursion (FitsCall One) calls (
     call_fits 0 2 1 5 Active (omega arith) (omega arith) active_fits,
     (
       call_fits 0 3 2 6 Pending (omega arith) (omega arith) pending_fits,
@@ -166,7 +167,7 @@ fits d device one = record {
       ),
     ),
   );
-  replies = All-from_recursion (FitsReply d) replies (
+  replies = All-from_recursion (FitsReply One d) replies (
     reply_fits d 2 1 0 33 (omega arith) (omega arith) (omega arith),
     (
       reply_fits d 3 2 1 34 (omega arith) (omega arith) (omega arith),

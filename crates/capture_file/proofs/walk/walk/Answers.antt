@@ -1,7 +1,14 @@
 use Rattle.std.proofs.Common.{refl, arith}
-use Rattle.capture_file.proofs.WalkLaws.{no_reading, walked_cut, walked_fault, walked_last}
+use Rattle.capture_file.proofs.WalkLaws.{front_none, no_reading, walked_cut, walked_fault, walked_last}
 use Rattle.capture_file.proofs.WalkLaws.{walked_next, shorter, reads_bytes}
 use Rattle.capture_file.proofs.walk.walk.Goals as goal
+
+pub loop-found-init : goal.loop-found-init
+loop-found-init g c = record {
+  front = front_none g.S.Judge.judges c.args.start c.args.whole c.args.bytes.now c.requires;
+  bytes = λ i. omega (arith, c.type_inv.bytes i);
+  within = c.requires;
+}
 
 pub returns-in-Err-clause-fault : goal.returns-in-Err-clause-fault
 returns-in-Err-clause-fault g c =
@@ -22,8 +29,8 @@ loop-found-preserved g c =
     let e = c.in-Ok.ensures.gives in
     let lt = shorter c.loop-found.rest.now _ _ _ i.bytes e in
     record {
-      front = walked_next g.S.Judge.judges c.args.start c.args.bytes.now c.loop-found.state
-          c.loop-found.rest.now _ _ _ c.in-Ok-Next.next i.front i.bytes e
+      front = walked_next g.S.Judge.judges c.args.start c.args.whole c.args.bytes.now
+          c.loop-found.state c.loop-found.rest.now _ _ _ c.in-Ok-Next.next i.front i.within i.bytes e
           (rw (← c.in-Ok-Next.field-0-is) c.in-Ok-Next.ensures);
       bytes = reads_bytes c.loop-found.rest.now _ _ i.bytes e;
       within = omega (arith, lt, i.within);

@@ -5,7 +5,7 @@ use Rattle.capture_file.proofs.walk.walk.Given as goal
 
 abbrev pub invariant-loop-found : goal.invariant-loop-found
 invariant-loop-found g l = record {
-  front : Front g.S.Judge.judges l.fn.start l.bytes l.state l.rest;
+  front : Front g.S.Judge.judges l.fn.start l.whole l.bytes l.state l.rest;
   bytes : IsBytes l.rest;
   within : length l.rest ≤ l.whole;
 }
