@@ -28,10 +28,12 @@ use Rattle.book_words.specs.declared.requests.Request.TheVariants.{Pending as As
 use Rattle.book_words.specs.declared.requests.When.{When}
 use Rattle.book_words.specs.declared.requests.When.TheVariants.{Now, At, After}
 use Rattle.exact_text.specs.Forms.{counted}
+use Rattle.capture_file.specs.Formats.{HoldsOffset}
 use Rattle.capture_file.specs.Requests.{action, cell, request}
 use Rattle.capture_file.specs.Replies.{FitsWidth, last, pending, rows, shown, when}
 use Rattle.capture_file.specs.Result.{widths_of}
-use Rattle.capture_file.proofs.RequestLaws.{moment_fits}
+use Rattle.capture_file.specs.declared.format.Format.{Format}
+use Rattle.capture_file.proofs.FormatLaws.{moment_fits}
 
 -- ---- requests
 
@@ -72,32 +74,35 @@ asked_parts AskPending fits = (now_fits, nothing_fits)
 -- ---- calls
 
 -- what is told of a call fits
-pub record IsFitCall (call : JournalCall) : Type 0 where
+pub record IsFitCall (format : Format) (call : JournalCall) : Type 0 where
   pub id : call.id < 256 ^ 8
   pub tick : call.tick < 256 ^ 8
-  pub first : call.offset ≡ 0
+  pub offset : HoldsOffset format call.offset
   pub asks : request.Fits call.request
 
-shown_fits : (call : JournalCall) → IsFitCall call → shown.Fits (shown_call call)
+shown_fits : (format : Format) (call : JournalCall) → IsFitCall format call
+    → (shown format).Fits (shown_call call)
 unfolding shown
-shown_fits call is = (
+shown_fits format call is = (
   is.id,
   (
     (asked_parts call.request is.asks).0,
-    moment_fits call.tick call.offset is.tick is.first,
+    moment_fits format call.tick call.offset is.tick is.offset,
   ),
 )
 
-last_fits : (o : Option JournalCall) → IfSome o IsFitCall → last.Fits (option_map shown_call o)
+last_fits : (format : Format) (o : Option JournalCall) → IfSome o (IsFitCall format)
+    → (last format).Fits (option_map shown_call o)
 unfolding last
-last_fits None is = (omega arith, inl (refl, refl))
-last_fits (Some call) is =
-    (omega arith, inr (λ e. omega (arith, e), inl (refl, (shown_fits call is, refl))))
+last_fits format None is = (omega arith, inl (refl, refl))
+last_fits format (Some call) is =
+    (omega arith, inr (λ e. omega (arith, e), inl (refl, (shown_fits format call is, refl))))
 
-item_fits : (call : JournalCall) → IsFitCall call → pending.Fits (item_of call)
+item_fits : (format : Format) (call : JournalCall) → IsFitCall format call
+    → (pending format).Fits (item_of call)
 unfolding pending
-item_fits call is = let parts = asked_parts call.request is.asks in
-    (is.id, (parts.0, (moment_fits call.tick call.offset is.tick is.first, parts.1)))
+item_fits format call is = let parts = asked_parts call.request is.asks in
+    (is.id, (parts.0, (moment_fits format call.tick call.offset is.tick is.offset, parts.1)))
 
 -- ---- what is chosen of calls
 
@@ -125,25 +130,26 @@ latest_keeps P (call ∷ calls) all =
     later_keeps P call (latest calls) all.0 (latest_keeps P calls all.1)
 
 -- the activation that counted last
-pub latest_fits : (p : JournalCall → Bool) (journal : List JournalCall)
-    → AllByRecursion IsFitCall journal
-    → last.Fits (option_map shown_call (latest (filter p journal)))
-latest_fits p journal all =
-    last_fits (latest (filter p journal))
-    (latest_keeps IsFitCall (filter p journal) (filter_keeps IsFitCall p journal all))
+pub latest_fits : (format : Format) (p : JournalCall → Bool) (journal : List JournalCall)
+    → AllByRecursion (IsFitCall format) journal
+    → (last format).Fits (option_map shown_call (latest (filter p journal)))
+latest_fits format p journal all =
+    last_fits format (latest (filter p journal))
+    (latest_keeps (IsFitCall format) (filter p journal)
+    (filter_keeps (IsFitCall format) p journal all))
 
-items_fit : (calls : List JournalCall) → AllByRecursion IsFitCall calls
-    → AllByRecursion pending.Fits (map item_of calls)
-items_fit [] all = tt
-items_fit (call ∷ calls) all = (item_fits call all.0, items_fit calls all.1)
+items_fit : (format : Format) (calls : List JournalCall) → AllByRecursion (IsFitCall format) calls
+    → AllByRecursion (pending format).Fits (map item_of calls)
+items_fit format [] all = tt
+items_fit format (call ∷ calls) all = (item_fits format call all.0, items_fit format calls all.1)
 
 -- a given number of pending activations
-pub pending_fits : (p : JournalCall → Bool) (journal : List JournalCall)
-    → AllByRecursion IsFitCall journal → length (filter p journal) < 256
-    → (counted pending).Fits (map item_of (filter p journal))
-pending_fits p journal all few = (
+pub pending_fits : (format : Format) (p : JournalCall → Bool) (journal : List JournalCall)
+    → AllByRecursion (IsFitCall format) journal → length (filter p journal) < 256
+    → (counted (pending format)).Fits (map item_of (filter p journal))
+pending_fits format p journal all few = (
   omega (arith, few, length-map (filter p journal) item_of),
-  (refl, items_fit (filter p journal) (filter_keeps IsFitCall p journal all)),
+  (refl, items_fit format (filter p journal) (filter_keeps (IsFitCall format) p journal all)),
 )
 
 -- ---- rows

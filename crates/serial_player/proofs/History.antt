@@ -10,11 +10,14 @@ use Rattle.io_caps.specs.declared.limits.TheConstants.{CAPTURE_TICKS, MOST_OUTPU
 use Rattle.map_entry.specs.Setup.{SetupParts, IsSetup}
 use Rattle.map_entry.specs.declared.entry.Entry.{Entry}
 use Rattle.capture_file.specs.Capture.{CaptureParts, IsCapture}
+use Rattle.capture_file.specs.Formats.{AllowsGrain}
 use Rattle.capture_file.specs.Items.{IsItemThere, claims_of, item}
 use Rattle.capture_file.specs.Result.{FitsClaim}
+use Rattle.capture_file.specs.declared.format.Format.{Format}
 use Rattle.packet_writer.specs.Packet.{Blocks, output_of_claim, tick_of_claim}
 use Rattle.book_words.specs.declared.calls.JournalCall.{JournalCall}
 use Rattle.book_words.specs.declared.history.ClaimItem.{ClaimItem}
+use Rattle.book_words.specs.declared.history.History.{History}
 use Rattle.book_words.specs.declared.history.ReplyItem.{ReplyItem}
 use Rattle.book_words.specs.History.{history_of, in_order}
 use Rattle.plain_book.proofs.Keeping.{has_outputs}
@@ -35,7 +38,7 @@ use Rattle.interleavings.proofs.Whole.{claims_legal}
 use Rattle.plain_book.proofs.Sound.{entries_are}
 use Rattle.plain_book.specs.Legal.{IsLegalJournal}
 use Rattle.serial_player.specs.Asks.{asked_by, says_by}
-use Rattle.serial_player.specs.Legal.{IsLegalClosed}
+use Rattle.serial_player.specs.Legal.{IsLegalClosed, IsSerial}
 use Rattle.serial_player.specs.Run.{AreLeft}
 use Rattle.serial_player.specs.Serial.{HasTurns, Played, asks_of, blocks_of, history_by}
 use Rattle.serial_player.specs.Serial.{packets_in, play_all, played, serial_history, steps_of}
@@ -48,7 +51,7 @@ use Rattle.serial_player.proofs.Tables.{table_has, table_is}
 use Rattle.serial_player.proofs.Told.{are_given, given_by, said_all, stamps_rise}
 use Rattle.serial_player.proofs.Wholes.{history_fits, steps_fit}
 use Rattle.serial_player.specs.Claim.{FitsOutput, claim_by}
-use Rattle.serial_player.specs.HistoryParts.{AreHistoryParts, history_by_parts}
+use Rattle.serial_player.specs.HistoryParts.{AreHistoryParts, capture_by, history_by_parts}
 use Rattle.serial_player.specs.declared.player.HistoryParts.{HistoryParts}
 use Rattle.serial_player.proofs.PacketLengths.{closed_fits}
 use Rattle.serial_player.specs.declared.claims.AllClaims.{AllClaims}
@@ -168,7 +171,7 @@ parts_are c steps left p capture of is table number entries journal replies =
         value = made;
         legal = subst (IsLegalClosed c of.turns) (sym made) legal;
       };
-      fits = λ fits tick.
+      fits = λ fits format allowed.
           let each : AllByRecursion item.Fits (map (λ t. t.item) of.turns) =
           subst (AllByRecursion item.Fits) (sym of.items_are)
           (recursion_from_All item.Fits c.items fits) in
@@ -179,8 +182,8 @@ parts_are c steps left p capture of is table number entries journal replies =
           let claims : All (FitsClaim s.device)
           (map (closed_claim s q.journal blocks) (range_with_len 0 q.claims)) =
           claims_fit s q.claims q.journal blocks q.claims checked has.legal short in
-          rw made (history_fits s blocks (steps_of of.turns)
-          (map (closed_claim s q.journal blocks) (range_with_len 0 q.claims)) checked tick
+          rw made (history_fits format s blocks (steps_of of.turns)
+          (map (closed_claim s q.journal blocks) (range_with_len 0 q.claims)) checked allowed
           (steps_fit inputs of.turns each there) short has.few has.held refl claims);
       table = table;
       claims = number ∙ has.claims ∙ count;
@@ -240,3 +243,39 @@ history_made c p claims made capture is setup count entries table value =
     (same_setup c claims es (blocks_of c) setup)
     ∙ ap (λ (m : ℕ). map (closed_claim c.setup p.journal (blocks_of c)) (range_with_len 0 m))
     (count ∙ is.claims))
+
+-- ---- its format, and where its records begin, make no difference
+
+-- to what a capture is, where the format can say the grain
+pub capture_same : (c : CaptureParts) (format : Format) → IsCapture c
+    → AllowsGrain format c.setup.grain → IsCapture (capture_by format c.setup c.items c.ticks)
+capture_same c format is allowed = record {
+  setup = is.setup;
+  grain = allowed;
+  work = is.work;
+  few = is.few;
+  there = is.there;
+}
+
+-- to its serial history
+pub serial_same : (c : CaptureParts) (format : Format) (h : History)
+    → IsSerial (capture_by format c.setup c.items c.ticks) h → IsSerial c h
+unfolding serial_history
+serial_same c format h is = record {
+  turns = is.turns;
+  items_are = is.items_are;
+  streams = is.streams;
+  value = is.value;
+  legal = is.legal;
+}
+
+-- and to the parts of that
+pub parts_same : (c : CaptureParts) (format : Format) (p : HistoryParts)
+    → AreHistoryParts (capture_by format c.setup c.items c.ticks) p → AreHistoryParts c p
+parts_same c format p are = record {
+  serial = serial_same c format (history_by_parts c p) are.serial;
+  fits = are.fits;
+  table = are.table;
+  claims = are.claims;
+  entries = are.entries;
+}

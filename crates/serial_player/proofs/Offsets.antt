@@ -1,12 +1,13 @@
--- Where the grain of a setup is the tick, each call counts from the first frame of its tick.
+-- The frame of its tick from which an activation counts is one that the format of its capture can
+-- hold.
 use Rattle.std.proofs.Common.{◌≡◌, ℕ, List, inl, inr, sym, ap, subst, ◌∙◌}
 use Rattle.std.proofs.Common.{[], ◌∷◌, ◌++◌, arith}
 use Rattle.std.specs.Prelude.{max}
+use Rattle.std.proofs.Math.Nat.{mod-lt}
 use Rattle.std.proofs.lemmas.Bool.{cases_lt}
 use Rattle.map_entry.specs.Setup.{SetupParts}
 use Rattle.map_entry.specs.Tick.{frame_in, frame_key}
 use Rattle.map_entry.specs.declared.grain.Grain.{Grain}
-use Rattle.map_entry.specs.declared.grain.Grain.TheVariants.{Tick}
 use Rattle.tai_time.specs.Tick.{tick_up}
 use Rattle.tai_time.specs.Time.{nanos_of}
 use Rattle.book_words.specs.declared.calls.JournalCall.{JournalCall}
@@ -19,61 +20,79 @@ use Rattle.plain_book.proofs.Accepted.{cases}
 use Rattle.plain_book.proofs.Lists.{IsIn, in_more}
 use Rattle.plain_book.proofs.Prefixes.{legal_by}
 use Rattle.plain_book.proofs.Waiting.{found_waits}
+use Rattle.capture_file.specs.Formats.{AllowsGrain, HoldsOffset}
+use Rattle.capture_file.specs.declared.format.Format.{Format}
+use Rattle.capture_file.specs.declared.format.Format.TheVariants.{One, Two}
 
 -- ---- where activations land
 
--- the later of two beginnings of ticks is one
-max_first : (a b : ℕ) → frame_in a ≡ 0 → frame_in b ≡ 0 → frame_in (max a b) ≡ 0
-max_first a b first second = elim (cases_lt a b) [
+-- the format can hold the frame of a key
+abbrev IsHeldKey : Format → ℕ → Type 0
+IsHeldKey format key = HoldsOffset format (frame_in key)
+
+-- format 2 can hold that of each key
+any_key : (key : ℕ) → IsHeldKey Two key
+any_key key = omega arith
+
+-- the later of two keys
+max_held : (format : Format) (a b : ℕ) → IsHeldKey format a → IsHeldKey format b
+    → IsHeldKey format (max a b)
+max_held format a b first second = elim (cases_lt a b) [
   | inl less ↦
-      let is : max a b ≡ b = omega (arith, less) in
-      subst (λ (k : ℕ). frame_in k ≡ 0) (sym is) second
+      let is : max a b ≡ b = omega (arith, less) in subst (IsHeldKey format) (sym is) second
   | inr more ↦
-      let is : max a b ≡ a = omega (arith, more) in
-      subst (λ (k : ℕ). frame_in k ≡ 0) (sym is) first
+      let is : max a b ≡ a = omega (arith, more) in subst (IsHeldKey format) (sym is) first
 ]
 
-begins_first : (s : SetupParts) (tick : ℕ) → frame_in (key_at s tick) ≡ 0
-begins_first s tick = omega arith
+begins_held : (format : Format) (s : SetupParts) (tick : ℕ) → IsHeldKey format (key_at s tick)
+begins_held One s tick = omega arith
+begins_held Two s tick = any_key (key_at s tick)
 
-up_first : (s : SetupParts) (nanos : ℕ) → s.grain ≡ Tick → frame_in (up s nanos) ≡ 0
-up_first s nanos whole =
+up_held : (format : Format) (s : SetupParts) (nanos : ℕ) → AllowsGrain format s.grain
+    → IsHeldKey format (up s nanos)
+up_held One s nanos whole =
     let key : up s nanos ≡ frame_key (tick_up s.device.rate nanos) 0 =
     ap (λ (grain : Grain). up_by grain s.device.rate nanos) whole in
-    ap frame_in key ∙ begins_first s (tick_up s.device.rate nanos)
+    ap frame_in key ∙ begins_held One s (tick_up s.device.rate nanos)
+up_held Two s nanos allowed = any_key (up s nanos)
 
-pub lands_first : (s : SetupParts) (claims : ℕ) (when : When) → s.grain ≡ Tick
-    → landing_offset s claims when ≡ 0
-lands_first s claims Now whole = begins_first s (tick_after s claims)
-lands_first s claims (At time) whole =
-    max_first (key_at s (tick_after s claims)) (up s (nanos_of time))
-    (begins_first s (tick_after s claims)) (up_first s (nanos_of time) whole)
-lands_first s claims (After time) whole =
+pub lands_held : (format : Format) (s : SetupParts) (claims : ℕ) (when : When)
+    → AllowsGrain format s.grain → HoldsOffset format (landing_offset s claims when)
+lands_held format s claims Now allowed = begins_held format s (tick_after s claims)
+lands_held format s claims (At time) allowed =
+    max_held format (key_at s (tick_after s claims)) (up s (nanos_of time))
+    (begins_held format s (tick_after s claims)) (up_held format s (nanos_of time) allowed)
+lands_held format s claims (After time) allowed =
     let sum = sum_from s (tick_after s claims) time in
-    max_first (key_at s (tick_after s claims)) (up s sum)
-    (begins_first s (tick_after s claims)) (up_first s sum whole)
+    max_held format (key_at s (tick_after s claims)) (up s sum)
+    (begins_held format s (tick_after s claims)) (up_held format s sum allowed)
 
 -- ---- calls
 
-abbrev pub CountFromTicks : List JournalCall → Type 0
-CountFromTicks journal = (call : JournalCall) → IsIn call journal → call.offset ≡ 0
+abbrev pub AreHeldBy : Format → List JournalCall → Type 0
+AreHeldBy format journal =
+    (call : JournalCall) → IsIn call journal → HoldsOffset format call.offset
 
-one_more : (s : SetupParts) (before : List JournalCall) (call : JournalCall) → s.grain ≡ Tick
-    → IsAccepted s before call → CountFromTicks before → CountFromTicks (before ++ call ∷ [])
-one_more s before call whole is so_far c i = elim (in_more c before call i) [
+one_more : (format : Format) (s : SetupParts) (before : List JournalCall) (call : JournalCall)
+    → AllowsGrain format s.grain → IsAccepted s before call → AreHeldBy format before
+    → AreHeldBy format (before ++ call ∷ [])
+one_more format s before call allowed is so_far c i = elim (in_more c before call i) [
   | inl old ↦ so_far c old
   | inr new ↦
-      subst (λ (x : JournalCall). x.offset ≡ 0) new
+      subst (λ (x : JournalCall). HoldsOffset format x.offset) new
       (elim (cases s before call is) [
-        | inl a ↦ a.2.offset_is ∙ lands_first s call.at a.0 whole
+        | inl a ↦
+            subst (HoldsOffset format) (sym a.2.offset_is)
+            (lands_held format s call.at a.0 allowed)
         | inr d ↦
-            d.2.offset_is ∙ so_far d.1 (found_waits s before call.at d.0 d.1 d.2.is).0
+            subst (HoldsOffset format) (sym d.2.offset_is)
+            (so_far d.1 (found_waits s before call.at d.0 d.1 d.2.is).0)
       ])
 ]
 
--- each call of a legal journal counts from the first frame of its tick
-pub count_from_ticks : (s : SetupParts) (m : ℕ) (journal : List JournalCall) → s.grain ≡ Tick
-    → IsLegalJournal s m journal → CountFromTicks journal
-count_from_ticks s m journal whole legal =
-    legal_by s CountFromTicks (λ call i. absurd i)
-    (λ before call legal is so_far. one_more s before call whole is so_far) m journal legal
+-- the frame from which each call of a legal journal counts
+pub calls_held : (format : Format) (s : SetupParts) (m : ℕ) (journal : List JournalCall)
+    → AllowsGrain format s.grain → IsLegalJournal s m journal → AreHeldBy format journal
+calls_held format s m journal allowed legal =
+    legal_by s (AreHeldBy format) (λ call i. absurd i)
+    (λ before call legal is so_far. one_more format s before call allowed is so_far) m journal legal

@@ -14,7 +14,6 @@ use Rattle.map_entry.specs.Action.{OutputChangeParts, applied}
 use Rattle.map_entry.specs.Row.{channels_of_output, is_allowed, is_channel_there, is_input_there}
 use Rattle.map_entry.specs.Row.{lowest_out, ordered_from, routable_of, row_fault, whole_from}
 use Rattle.map_entry.specs.Setup.{IsSetup, SetupParts}
-use Rattle.map_entry.specs.declared.grain.Grain.TheVariants.{Tick}
 use Rattle.map_entry.specs.declared.cell.Cell.{Cell}
 use Rattle.map_entry.specs.declared.change.Change.{Change}
 use Rattle.map_entry.specs.declared.fault.RowFault.{RowFault}
@@ -45,15 +44,17 @@ use Rattle.book_words.specs.declared.requests.When.TheVariants.{Now, At, After}
 use Rattle.plain_book.proofs.Keeping.{has_outputs}
 use Rattle.plain_book.proofs.Locks.{is_free}
 use Rattle.plain_book.proofs.Sound.{IsSound, row_from_is, sound}
-use Rattle.capture_file.specs.Requests.{action, change as one_change, moment, output_change}
+use Rattle.capture_file.specs.Formats.{AllowsGrain, moment}
+use Rattle.capture_file.specs.declared.format.Format.{Format}
+use Rattle.capture_file.specs.Requests.{action, change as one_change, output_change}
 use Rattle.capture_file.specs.Requests.{request}
 use Rattle.capture_file.specs.Replies.{refusal as refusal_form, reply as reply_form}
 use Rattle.capture_file.specs.Replies.{row_fault as fault_form, view}
 use Rattle.capture_file.specs.Result.{widths_of}
-use Rattle.capture_file.proofs.RequestLaws.{moment_fits}
+use Rattle.capture_file.proofs.FormatLaws.{moment_fits}
 use Rattle.serial_player.proofs.Fitting.{IsFitCall, latest_fits, pending_fits, request_parts}
 use Rattle.serial_player.proofs.Fitting.{rows_fit}
-use Rattle.serial_player.proofs.Offsets.{lands_first}
+use Rattle.serial_player.proofs.Offsets.{lands_held}
 use Rattle.serial_player.proofs.Pendings.{few_pending}
 use Rattle.serial_player.proofs.Tallies.{IsHeld, key_fits, next_few}
 use Rattle.list_laws.proofs.Options.{option_or-first, option_or-second}
@@ -282,10 +283,10 @@ refusal_low s journal claims when a is rows low =
     (λ c h. row_low s journal claims a c is rows h) a (all_known s.device a there low))) (λ e5.
     if_low IsByteRefusal (is_time_over s claims when) Time tt)))))
 
-refused_fits : (widths : List ℕ) (r : Refusal) → IsByteRefusal r
-    → (reply_form widths).Fits (Refused r)
+refused_fits : (format : Format) (widths : List ℕ) (r : Refusal) → IsByteRefusal r
+    → (reply_form format widths).Fits (Refused r)
 unfolding reply_form refusal_form
-refused_fits widths Empty low = (
+refused_fits format widths Empty low = (
   omega arith,
   inr (
     λ e. omega (arith, e),
@@ -298,7 +299,7 @@ refused_fits widths Empty low = (
     ),
   ),
 )
-refused_fits widths (Unknown output) low = (
+refused_fits format widths (Unknown output) low = (
   omega arith,
   inr (
     λ e. omega (arith, e),
@@ -314,7 +315,7 @@ refused_fits widths (Unknown output) low = (
     ),
   ),
 )
-refused_fits widths (BadChannel output channel) low = (
+refused_fits format widths (BadChannel output channel) low = (
   omega arith,
   inr (
     λ e. omega (arith, e),
@@ -333,7 +334,7 @@ refused_fits widths (BadChannel output channel) low = (
     ),
   ),
 )
-refused_fits widths (Locked output) low = (
+refused_fits format widths (Locked output) low = (
   omega arith,
   inr (
     λ e. omega (arith, e),
@@ -355,7 +356,7 @@ refused_fits widths (Locked output) low = (
     ),
   ),
 )
-refused_fits widths (Row output fault) low = (
+refused_fits format widths (Row output fault) low = (
   omega arith,
   inr (
     λ e. omega (arith, e),
@@ -383,7 +384,7 @@ refused_fits widths (Row output fault) low = (
     ),
   ),
 )
-refused_fits widths Time low = (
+refused_fits format widths Time low = (
   omega arith,
   inr (
     λ e. omega (arith, e),
@@ -411,7 +412,7 @@ refused_fits widths Time low = (
     ),
   ),
 )
-refused_fits widths (NotPending id) low = (
+refused_fits format widths (NotPending id) low = (
   omega arith,
   inr (
     λ e. omega (arith, e),
@@ -448,18 +449,18 @@ refused_fits widths (NotPending id) low = (
 
 -- ---- what accepts
 
-accepted_fits : (widths : List ℕ) (when : When) (id tick offset : ℕ) → id < 256 ^ 8
-    → moment.Fits (tick, offset) → (reply_form widths).Fits (accepted when id tick offset)
+accepted_fits : (format : Format) (widths : List ℕ) (when : When) (id tick offset : ℕ) → id < 256 ^ 8
+    → (moment format).Fits (tick, offset) → (reply_form format widths).Fits (accepted when id tick offset)
 unfolding reply_form
-accepted_fits widths Now id tick offset low here = (omega arith, inl (refl, ((low, here), refl)))
-accepted_fits widths (At time) id tick offset low here =
+accepted_fits format widths Now id tick offset low here = (omega arith, inl (refl, ((low, here), refl)))
+accepted_fits format widths (At time) id tick offset low here =
     (omega arith, inr (λ e. omega (arith, e), inl (refl, ((low, here), refl))))
-accepted_fits widths (After time) id tick offset low here =
+accepted_fits format widths (After time) id tick offset low here =
     (omega arith, inr (λ e. omega (arith, e), inl (refl, ((low, here), refl))))
 
-deleted_fits : (widths : List ℕ) (id : ℕ) → id < 256 ^ 8 → (reply_form widths).Fits (Deleted id)
+deleted_fits : (format : Format) (widths : List ℕ) (id : ℕ) → id < 256 ^ 8 → (reply_form format widths).Fits (Deleted id)
 unfolding reply_form
-deleted_fits widths id low =
+deleted_fits format widths id low =
     (omega arith, inr (λ e. omega (arith, e), inr (λ e. omega (arith, e), inl (refl, (low, refl)))))
 
 -- ---- the reply
@@ -473,26 +474,26 @@ land_fits s claims when is over =
     over).1 in
     key_fits s (land s claims when) is (not_past (start s (land s claims when)) past)
 
-activation_fits : (s : SetupParts) (journal : List JournalCall) (claims : ℕ) (when : When)
-    (a : List OutputChangeParts) (o : Option Refusal) → IsSetup s → s.grain ≡ Tick → IsHeld journal
+activation_fits : (format : Format) (s : SetupParts) (journal : List JournalCall) (claims : ℕ) (when : When)
+    (a : List OutputChangeParts) (o : Option Refusal) → IsSetup s → AllowsGrain format s.grain → IsHeld journal
     → refusal_of s journal claims when a ≡ o → IfSome o IsByteRefusal
-    → (reply_form (widths_of s.device)).Fits
+    → (reply_form format (widths_of s.device)).Fits
     (option_map_or Refused o
     (accepted when (next_id journal) (landing_tick s claims when) (landing_offset s claims when)))
-activation_fits s journal claims when a (Some r) is whole held free low =
-    refused_fits (widths_of s.device) r low
-activation_fits s journal claims when a None is whole held free low =
+activation_fits format s journal claims when a (Some r) is whole held free low =
+    refused_fits format (widths_of s.device) r low
+activation_fits format s journal claims when a None is whole held free low =
     let over = not_over (is_time_over s claims when)
     (is_free s journal claims when a free).in_time in
-    accepted_fits (widths_of s.device) when (next_id journal) (landing_tick s claims when)
+    accepted_fits format (widths_of s.device) when (next_id journal) (landing_tick s claims when)
     (landing_offset s claims when) (next_few journal held)
-    (moment_fits (landing_tick s claims when) (landing_offset s claims when)
-    (land_fits s claims when is over) (lands_first s claims when whole))
+    (moment_fits format (landing_tick s claims when) (landing_offset s claims when)
+    (land_fits s claims when is over) (lands_held format s claims when whole))
 
-deletion_fits : (widths : List ℕ) (id : ℕ) (o : Option JournalCall) → id < 256 ^ 8
-    → (reply_form widths).Fits (option_map_or (λ call. Deleted id) o (Refused (NotPending id)))
-deletion_fits widths id None low = refused_fits widths (NotPending id) low
-deletion_fits widths id (Some call) low = deleted_fits widths id low
+deletion_fits : (format : Format) (widths : List ℕ) (id : ℕ) (o : Option JournalCall) → id < 256 ^ 8
+    → (reply_form format widths).Fits (option_map_or (λ call. Deleted id) o (Refused (NotPending id)))
+deletion_fits format widths id None low = refused_fits format widths (NotPending id) low
+deletion_fits format widths id (Some call) low = deleted_fits format widths id low
 
 id_of : (id : ℕ) → request.Fits (Delete id) → id < 256 ^ 8
 unfolding request
@@ -502,11 +503,11 @@ id_of id (low, inr (a, inr (b, inl f))) = absurd (omega (arith, f.0))
 id_of id (low, inr (a, inr (b, inr (c, inl f)))) = f.1.0
 id_of id (low, inr (a, inr (b, inr (c, inr f)))) = absurd (f.0 refl)
 
-shown_fits : (s : SetupParts) (journal : List JournalCall) (claims : ℕ) → IsSetup s
-    → IsSound s journal → AllByRecursion IsFitCall journal
-    → (reply_form (widths_of s.device)).Fits (Active (view_of s journal claims))
+shown_fits : (format : Format) (s : SetupParts) (journal : List JournalCall) (claims : ℕ) → IsSetup s
+    → IsSound s journal → AllByRecursion (IsFitCall format) journal
+    → (reply_form format (widths_of s.device)).Fits (Active (view_of s journal claims))
 unfolding reply_form view
-shown_fits s journal claims is rows calls = (
+shown_fits format s journal claims is rows calls = (
   omega arith,
   inr (
     λ e. omega (arith, e),
@@ -518,7 +519,7 @@ shown_fits s journal claims is rows calls = (
           refl,
           (
             (
-              latest_fits (is_active s journal claims) journal calls,
+              latest_fits format (is_active s journal claims) journal calls,
               rows_fit s.device (λ (output : ℕ). row_from s (entries_of s journal) output claims)
                   is.device
                   (λ output there. row_from_is s journal output claims rows there),
@@ -531,11 +532,11 @@ shown_fits s journal claims is rows calls = (
   ),
 )
 
-list_fits : (s : SetupParts) (journal : List JournalCall) (claims : ℕ) → IsSetup s
-    → IsLegalJournal s claims journal → AllByRecursion IsFitCall journal
-    → (reply_form (widths_of s.device)).Fits (Pending (map item_of (pending_of s journal claims)))
+list_fits : (format : Format) (s : SetupParts) (journal : List JournalCall) (claims : ℕ) → IsSetup s
+    → IsLegalJournal s claims journal → AllByRecursion (IsFitCall format) journal
+    → (reply_form format (widths_of s.device)).Fits (Pending (map item_of (pending_of s journal claims)))
 unfolding reply_form
-list_fits s journal claims is legal calls =
+list_fits format s journal claims is legal calls =
     let most = few_pending s claims journal is legal in
     let few : length (pending_of s journal claims) < 256 =
     omega (arith, most, is.device.bounds.few_outputs) in (
@@ -548,7 +549,7 @@ list_fits s journal claims is legal calls =
             λ e. omega (arith, e),
             inr (
               λ e. omega (arith, e),
-              inl (refl, (pending_fits (is_pending s journal claims) journal calls few, refl)),
+              inl (refl, (pending_fits format (is_pending s journal claims) journal calls few, refl)),
             ),
           ),
         ),
@@ -556,18 +557,18 @@ list_fits s journal claims is legal calls =
     )
 
 -- the book's reply to what fits
-pub reply_fits : (s : SetupParts) (journal : List JournalCall) (claims : ℕ) (r : Request)
-    → IsSetup s → s.grain ≡ Tick → IsLegalJournal s claims journal → IsHeld journal
-    → AllByRecursion IsFitCall journal → request.Fits r
-    → (reply_form (widths_of s.device)).Fits (reply_of s journal claims r)
+pub reply_fits : (format : Format) (s : SetupParts) (journal : List JournalCall) (claims : ℕ) (r : Request)
+    → IsSetup s → AllowsGrain format s.grain → IsLegalJournal s claims journal → IsHeld journal
+    → AllByRecursion (IsFitCall format) journal → request.Fits r
+    → (reply_form format (widths_of s.device)).Fits (reply_of s journal claims r)
 unfolding reply_of
-reply_fits s journal claims (Activate when a) is whole legal held calls fits =
+reply_fits format s journal claims (Activate when a) is whole legal held calls fits =
     let rows = sound s claims journal is (has_outputs s is) legal in
-    activation_fits s journal claims when a (refusal_of s journal claims when a) is whole held refl
+    activation_fits format s journal claims when a (refusal_of s journal claims when a) is whole held refl
     (refusal_low s journal claims when a is rows (action_low a (request_parts when a fits).1))
-reply_fits s journal claims (Delete id) is whole legal held calls fits =
-    deletion_fits (widths_of s.device) id (pending_call s journal claims id) (id_of id fits)
-reply_fits s journal claims AskActive is whole legal held calls fits =
-    shown_fits s journal claims is (sound s claims journal is (has_outputs s is) legal) calls
-reply_fits s journal claims AskPending is whole legal held calls fits =
-    list_fits s journal claims is legal calls
+reply_fits format s journal claims (Delete id) is whole legal held calls fits =
+    deletion_fits format (widths_of s.device) id (pending_call s journal claims id) (id_of id fits)
+reply_fits format s journal claims AskActive is whole legal held calls fits =
+    shown_fits format s journal claims is (sound s claims journal is (has_outputs s is) legal) calls
+reply_fits format s journal claims AskPending is whole legal held calls fits =
+    list_fits format s journal claims is legal calls

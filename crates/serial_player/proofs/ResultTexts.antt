@@ -8,7 +8,9 @@ use Rattle.list_laws.proofs.Ranges.{flat_map_same}
 use Rattle.io_caps.specs.declared.device.DeviceParts.{DeviceParts}
 use Rattle.capture_file.specs.Items.{end_text}
 use Rattle.capture_file.specs.Parts.{between_bytes, claim_bytes}
-use Rattle.capture_file.specs.Result.{result_magic, result_text}
+use Rattle.capture_file.specs.Formats.{result_magic}
+use Rattle.capture_file.specs.Result.{result_text}
+use Rattle.capture_file.specs.declared.format.Format.{Format}
 use Rattle.capture_file.proofs.Between.{woven_bytes, woven_text}
 use Rattle.capture_file.proofs.PartLaws.{shows_all}
 use Rattle.capture_file.specs.Capture.{CaptureParts, IsCapture}
@@ -25,46 +27,46 @@ use Rattle.serial_player.specs.declared.claims.AllClaims.{AllClaims}
 use Rattle.serial_player.specs.declared.writing.Prepared.{Prepared}
 use Rattle.serial_player.specs.Serial.{blocks_of, packets_in}
 use Rattle.serial_player.proofs.Beginning.{closed_keeps}
-use Rattle.serial_player.specs.HistoryParts.{history_by_parts}
-use Rattle.serial_player.proofs.History.{all_made, same_setup}
+use Rattle.serial_player.specs.HistoryParts.{capture_by, history_by_parts}
+use Rattle.serial_player.proofs.History.{all_made, same_setup, serial_same}
 use Rattle.chan_io.specs.Streams.{TakesPrefix}
 
-pub text_is : (d : DeviceParts) (claim_of : ℕ → ClaimItem) (n : ℕ) (calls : List JournalCall)
+pub text_is : (format : Format) (d : DeviceParts) (claim_of : ℕ → ClaimItem) (n : ℕ) (calls : List JournalCall)
     (replies : List ReplyItem) (between : List (List ℕ)) → ((k : ℕ) → (claim_of k).k ≡ k)
-    → between ≡ map (λ number. between_bytes number calls replies) (range_with_len 0 (n + 1))
-    → text_by between claim_of n
-    ≡ result_text d (history_of (map claim_of (range_with_len 0 n)) calls replies)
-text_is d claim_of n calls replies between numbered is =
-    let of = λ (number : ℕ). between_bytes number calls replies in
+    → between ≡ map (λ number. between_bytes format number calls replies) (range_with_len 0 (n + 1))
+    → text_by format between claim_of n
+    ≡ result_text format d (history_of (map claim_of (range_with_len 0 n)) calls replies)
+text_is format d claim_of n calls replies between numbered is =
+    let of = λ (number : ℕ). between_bytes format number calls replies in
     let at : (k : ℕ) → k < n + 1 → get_or between k [] ≡ of k = λ k lt.
     ap (λ (xs : List (List ℕ)). get_or xs k []) is
     ∙ get_or-map-range_with_len of 0 (n + 1) k k [] lt (zero-add k) in
     let pieces = flat_map (record_behind between claim_of) (range_with_len 0 n) in
-    let same : pieces ≡ flat_map (woven_bytes claim_of calls replies) (range_with_len 0 n) =
-    flat_map_same (record_behind between claim_of) (woven_bytes claim_of calls replies) 0 n
+    let same : pieces ≡ flat_map (woven_bytes format claim_of calls replies) (range_with_len 0 n) =
+    flat_map_same (record_behind between claim_of) (woven_bytes format claim_of calls replies) 0 n
     (λ k from to. ap (λ (z : List ℕ). z ++ claim_bytes (claim_of k)) (at k (omega (arith, to)))) in
-    ap (λ (z : List ℕ). result_magic ++ (z ++ (get_or between n [] ++ end_text))) same
-    ∙ ap (λ (z : List ℕ). result_magic
-    ++ (flat_map (woven_bytes claim_of calls replies) (range_with_len 0 n) ++ (z ++ end_text)))
+    ap (λ (z : List ℕ). result_magic format ++ (z ++ (get_or between n [] ++ end_text))) same
+    ∙ ap (λ (z : List ℕ). result_magic format
+    ++ (flat_map (woven_bytes format claim_of calls replies) (range_with_len 0 n) ++ (z ++ end_text)))
     (at n (omega arith))
-    ∙ sym (woven_text d claim_of n calls replies numbered)
+    ∙ sym (woven_text format d claim_of n calls replies numbered)
 
 -- ---- what a sink took
 
 -- the text that is written from what was prepared
 abbrev prepared_text : CaptureParts → List JournalCall → List (List ℕ) → ℕ → List ℕ
 prepared_text c journal between n =
-    text_by between (claim_by c.setup (entries_of c.setup journal) (blocks_of c)) n
+    text_by c.format between (claim_by c.setup (entries_of c.setup journal) (blocks_of c)) n
 
 -- it is the result of the serial history
 serial_text : (c : CaptureParts) (p : Prepared) → IsPrepared c p
     → prepared_text c p.parts.journal p.between p.parts.claims
-    ≡ result_text c.setup.device (history_by_parts c p.parts)
+    ≡ result_text c.format c.setup.device (history_by_parts c p.parts)
 serial_text c p is =
     let journal = p.parts.journal in
     let claims = claim_by c.setup (entries_of c.setup journal) (blocks_of c) in
-    ap (text_by p.between claims) is.parts_are.claims
-    ∙ text_is c.setup.device claims (packets_in c) journal p.parts.replies p.between
+    ap (text_by c.format p.between claims) is.parts_are.claims
+    ∙ text_is c.format c.setup.device claims (packets_in c) journal p.parts.replies p.between
     (λ k. refl) is.between
 
 -- so is the text of its claims and of what stands between them
@@ -89,18 +91,18 @@ result_is c p count between capture is count_same between_same =
 -- the text of the claims is that of what was prepared
 claims_text : (c : CaptureParts) (p : Prepared) (claims : AllClaims) (between : List (List ℕ))
     → claims.setup.now ≡ c.setup
-    → text_by between
+    → text_by c.format between
     (all_made_by claims (entries_of c.setup p.parts.journal) (blocks_of c)) claims.count
     ≡ prepared_text c p.parts.journal between claims.count
 claims_text c p claims between setup =
-    ap (λ (claim : ℕ → ClaimItem). text_by between claim claims.count)
+    ap (λ (claim : ℕ → ClaimItem). text_by c.format between claim claims.count)
     (same_setup c claims (entries_of c.setup p.parts.journal) (blocks_of c) setup)
 
 -- a sink took all of it
 pub written_is : (c : CaptureParts) (p : Prepared) (claims : AllClaims) (between : List (List ℕ))
     (old new : Option (List ℕ)) → IsCapture c → IsPrepared c p → claims.setup.now ≡ c.setup
     → claims.count ≡ p.parts.claims → claims.entries.now ≡ p.parts.entries
-    → claims.table.now ≡ p.parts.table → between ≡ p.between → TakesText claims between old new
+    → claims.table.now ≡ p.parts.table → between ≡ p.between → TakesText c.format claims between old new
     → IsWritten c old new
 written_is c p claims between old new capture is setup count entries table between_same took =
     let journal = p.parts.journal in
@@ -119,7 +121,7 @@ pub cut_short_is : (c : CaptureParts) (p : Prepared) (claims : AllClaims)
     (between : List (List ℕ)) (old new : Option (List ℕ)) → IsCapture c → IsPrepared c p
     → claims.setup.now ≡ c.setup → claims.count ≡ p.parts.claims
     → claims.entries.now ≡ p.parts.entries → claims.table.now ≡ p.parts.table
-    → between ≡ p.between → TakesTextInPart claims between old new
+    → between ≡ p.between → TakesTextInPart c.format claims between old new
     → IsWrittenInPart c old new
 cut_short_is c p claims between old new capture is setup count entries table between_same took =
     let journal = p.parts.journal in
@@ -130,3 +132,35 @@ cut_short_is c p claims between old new capture is setup count entries table bet
           (took (entries_of c.setup journal) (blocks_of c)
           (all_made c p.parts claims capture is.parts_are setup count entries table));
     }
+
+-- ---- where the records of a capture begin makes no difference
+
+-- to its result
+result_same : (c : CaptureParts) (text : List ℕ)
+    → IsResultOf (capture_by c.format c.setup c.items c.ticks) text → IsResultOf c text
+result_same c text is = record {
+  history = is.history;
+  serial = serial_same c c.format is.history is.serial;
+  begun = is.begun;
+  fits = is.fits;
+  shows = is.shows;
+  written = is.written;
+}
+
+pub written_same : (c : CaptureParts) (old new : Option (List ℕ))
+    → IsWritten (capture_by c.format c.setup c.items c.ticks) old new → IsWritten c old new
+written_same c old new is = record {
+  text = is.text;
+  result = result_same c is.text is.result;
+  alike = is.alike;
+  took = is.took;
+}
+
+pub cut_short_same : (c : CaptureParts) (old new : Option (List ℕ))
+    → IsWrittenInPart (capture_by c.format c.setup c.items c.ticks) old new
+    → IsWrittenInPart c old new
+cut_short_same c old new is = record {
+  text = is.text;
+  result = result_same c is.text is.result;
+  took = is.took;
+}

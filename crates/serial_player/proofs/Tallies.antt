@@ -37,8 +37,7 @@ key_fits s key is low = omega (arith, key_below s key is low)
 
 -- the tick from which a call counts
 pub tick_fits : (s : SetupParts) (m : ℕ) (journal : List JournalCall) (call : JournalCall)
-    → IsSetup s → IsLegalJournal s m journal → IsIn call journal → call.offset ≡ 0
-    → call.tick < 256 ^ 8
-tick_fits s m journal call is legal here first =
+    → IsSetup s → IsLegalJournal s m journal → IsIn call journal → call.tick < 256 ^ 8
+tick_fits s m journal call is legal here =
     let low = key_below s (call_due call) is (have_starts s m journal legal call here) in
-    omega (arith, low, first)
+    omega (arith, low)

@@ -10,7 +10,9 @@ use Rattle.capture_file.specs.Capture.{CaptureParts}
 use Rattle.capture_file.specs.Items.{end_text}
 use Rattle.capture_file.specs.Parts.{between_bytes, claim_bytes}
 use Rattle.capture_file.specs.Records.{ShowsAll}
-use Rattle.capture_file.specs.Result.{FitsHistory, result_magic, result_text}
+use Rattle.capture_file.specs.Formats.{result_magic}
+use Rattle.capture_file.specs.Result.{FitsHistory, result_text}
+use Rattle.capture_file.specs.declared.format.Format.{Format}
 use Rattle.book_words.specs.declared.history.ClaimItem.{ClaimItem}
 use Rattle.book_words.specs.declared.history.History.{History}
 use Rattle.serial_player.specs.Legal.{IsSerial, KeepsBegunTicks}
@@ -30,10 +32,10 @@ use Rattle.map_entry.specs.declared.entry.Entry.{Entry}
 abbrev pub record_behind : List (List ℕ) → (ℕ → ClaimItem) → ℕ → List ℕ
 record_behind between claim_of k = slice_index_or between k [] ++ claim_bytes (claim_of k)
 
--- the magic, a given number of claims, what follows the last one, and the last record
-abbrev pub text_by : List (List ℕ) → (ℕ → ClaimItem) → ℕ → List ℕ
-text_by between claim_of claims =
-    result_magic
+-- the magic of a format, a given number of claims, what follows the last one, and the last record
+abbrev pub text_by : Format → List (List ℕ) → (ℕ → ClaimItem) → ℕ → List ℕ
+text_by format between claim_of claims =
+    result_magic format
     ++ (flat_map (record_behind between claim_of) (range_with_len 0 claims)
     ++ (slice_index_or between claims [] ++ end_text))
 
@@ -66,18 +68,19 @@ TakesClaims c between old old_waiting new =
     → TakesOn old old_waiting new (records_of_all c between entries blocks)
 
 -- a sink took the whole text of a result, whatever list of entries and blocks its claims are by
-abbrev pub TakesText : AllClaims → List (List ℕ) → Option (List ℕ) → Option (List ℕ) → Type 0
-TakesText c between old new =
+abbrev pub TakesText : Format → AllClaims → List (List ℕ) → Option (List ℕ) → Option (List ℕ)
+    → Type 0
+TakesText format c between old new =
     (entries : List Entry) (blocks : Blocks) → AreBy c entries blocks
     → TellsAlike old new
-    × Appends old new (text_by between (all_made_by c entries blocks) c.count)
+    × Appends old new (text_by format between (all_made_by c entries blocks) c.count)
 
 -- a sink took a front of the text of a result
-abbrev pub TakesTextInPart : AllClaims → List (List ℕ) → Option (List ℕ) → Option (List ℕ)
-    → Type 0
-TakesTextInPart c between old new =
+abbrev pub TakesTextInPart : Format → AllClaims → List (List ℕ) → Option (List ℕ)
+    → Option (List ℕ) → Type 0
+TakesTextInPart format c between old new =
     (entries : List Entry) (blocks : Blocks) → AreBy c entries blocks
-    → TakesPrefix old new (text_by between (all_made_by c entries blocks) c.count)
+    → TakesPrefix old new (text_by format between (all_made_by c entries blocks) c.count)
 
 -- The first claims can be given to a sink: they can be made, there is what stands between them and
 -- after the last one, a flag for each input, and a buffer of `BUFFER_LEN` bytes.
@@ -94,8 +97,9 @@ pub record CanBePut (c : AllClaims) (between : List (List ℕ)) (found : List Bo
 -- for each input, and a buffer of `BUFFER_LEN` bytes in which nothing waits.
 pub record IsPrepared (c : CaptureParts) (p : Prepared) : Type 0 where
   pub parts_are : AreHistoryParts c p.parts
-  pub fits : FitsHistory c.setup.device (history_by_parts c p.parts)
-  pub between : p.between ≡ map (λ number. between_bytes number p.parts.journal p.parts.replies)
+  pub fits : FitsHistory c.format c.setup.device (history_by_parts c p.parts)
+  pub between : p.between
+      ≡ map (λ number. between_bytes c.format number p.parts.journal p.parts.replies)
       (range_with_len 0 (packets_in c + 1))
   pub found : length p.found.items ≡ length c.setup.device.inputs
   pub waiting : waiting_bytes p.out ≡ []
@@ -103,16 +107,16 @@ pub record IsPrepared (c : CaptureParts) (p : Prepared) : Type 0 where
 
 -- ---- what a sink took
 
--- This text is the result of a capture: that of its serial history, of which nothing is left out,
--- and each part of which is what some record of a result is read as. The history is legal, and in
+-- This text is the result of a capture, in its format: that of its serial history, of which
+-- nothing is left out, and each part of which is what some record of a result is read as. The history is legal, and in
 -- it no activation changes a tick that has begun.
 pub record IsResultOf (c : CaptureParts) (text : List ℕ) : Type 0 where
   pub history : History
   pub serial : IsSerial c history
   pub begun : KeepsBegunTicks c history
-  pub fits : FitsHistory c.setup.device history
+  pub fits : FitsHistory c.format c.setup.device history
   pub shows : ShowsAll history
-  pub written : text ≡ result_text c.setup.device history
+  pub written : text ≡ result_text c.format c.setup.device history
 
 -- a sink took the result of a capture
 pub record IsWritten (c : CaptureParts) (old new : Option (List ℕ)) : Type 0 where

@@ -6,10 +6,10 @@ ghost use Rattle.std.specs.Prelude.{length, take};
 ghost use Rattle.chan_io.specs.Causes.{HasCause, Rose};
 ghost use Rattle.chan_io.specs.Outgoing.{waiting_bytes};
 ghost use Rattle.chan_io.specs.Streams.{TakesOn};
-ghost use Rattle.capture_file.specs.Capture.{IsCapture, capture_of};
+ghost use Rattle.capture_file.specs.Capture.{IsCapture};
 ghost use Rattle.capture_file.specs.Items.{item};
 ghost use Rattle.capture_file.specs.Walk.{IfFault, IfNoMemory};
-ghost use Rattle.map_entry.specs.declared.grain.Grain.TheVariants.{Tick};
+ghost use Rattle.serial_player.specs.HistoryParts.{capture_by};
 ghost use Rattle.serial_player.specs.Made.{IsReady, IsRecordOf, packet_length_of};
 ghost use Rattle.serial_player.specs.Written.{CanBePut, IsPrepared, IsWritten, IsWrittenInPart};
 ghost use Rattle.serial_player.specs.Written.{SendsClaim, SendsClaims, TakesClaims, TakesText};
@@ -17,7 +17,9 @@ ghost use Rattle.serial_player.specs.Written.{TakesTextInPart};
 
 use crate::claims::{AllClaims, OneClaim};
 use crate::player::{HistoryParts, make_parts};
-use capture_file::{CLAIM_HEAD_LEN, Capture, Item, RESULT_MAGIC, end_record, write_between};
+use capture_file::{
+    CLAIM_HEAD_LEN, Capture, Format, Item, end_record, result_magic, write_between,
+};
 use chan_io::{Failed, Outgoing, Sink};
 use io_caps::{Bytes, ListOf, NoMemory, Or};
 use map_entry::Setup;
@@ -90,9 +92,10 @@ fn put_claims<K: Sink>(
     Ok(())
 }
 
-/// Gives a sink the whole text of a result. `found` is for the flags of a claim, and nothing waits
+/// Gives a sink the whole text of a result, in a format. `found` is for the flags of a claim, and nothing waits
 /// in `out` before.
 fn put_result<K: Sink>(
+    format: Format,
     claims: &AllClaims,
     between: &[Bytes],
     found: &mut [bool],
@@ -102,12 +105,12 @@ fn put_result<K: Sink>(
     requires ready { CanBePut claims.now between.now found.old out.old }
     requires waiting { waiting_bytes out.old ≡ [] }
     ensures cause { HasCause (K.faults sink.old) (K.faults sink.new) result }
-    ensures ok { OnOk result (TakesText claims.now between.now (K.taken sink.old)
+    ensures ok { OnOk result (TakesText format claims.now between.now (K.taken sink.old)
         (K.taken sink.new)) }
-    ensures prefix { TakesTextInPart claims.now between.now (K.taken sink.old)
+    ensures prefix { TakesTextInPart format claims.now between.now (K.taken sink.old)
         (K.taken sink.new) }
 {
-    out.put(sink, RESULT_MAGIC)?;
+    out.put(sink, result_magic(format))?;
     put_claims(claims, between, found, out, sink)?;
     out.put(sink, between[claims.count].as_slice())?;
     out.put(sink, &end_record())?;
@@ -124,16 +127,22 @@ pub(crate) struct Prepared {
 }
 
 /// Does what a setup's records say, whose claims fill `ticks` ticks, and takes all memory that
-/// their result wants.
-fn prepare(alloc: Global, setup: &Setup, items: &[Item], ticks: u64) -> Result<Prepared, NoMemory>
-    requires capture { IsCapture (capture_of setup.now items.now ticks) }
+/// their result in a format wants.
+fn prepare(
+    alloc: Global,
+    format: Format,
+    setup: &Setup,
+    items: &[Item],
+    ticks: u64,
+) -> Result<Prepared, NoMemory>
+    requires capture { IsCapture (capture_by format setup.now items.now ticks) }
     requires fits { All item.Fits items.now }
-    requires grain { setup.now.grain ≡ Tick }
-    ensures { IfOk result (IsPrepared (capture_of setup.now items.now ticks)) }
+    ensures { IfOk result (IsPrepared (capture_by format setup.now items.now ticks)) }
 {
     let parts = make_parts(alloc, setup, items, ticks)?;
     let between = write_between(
         alloc,
+        format,
         parts.journal.as_slice(),
         parts.replies.as_slice(),
         parts.claims + 1,
@@ -146,23 +155,23 @@ fn prepare(alloc: Global, setup: &Setup, items: &[Item], ticks: u64) -> Result<P
     })
 }
 
-/// Gives a sink the result of a setup's records, whose claims fill `ticks` ticks.
+/// Gives a sink the result of a setup's records in a format, whose claims fill `ticks` ticks.
 fn write_items<K: Sink>(
     alloc: Global,
+    format: Format,
     setup: &Setup,
     items: &[Item],
     ticks: u64,
     sink: &mut K,
 ) -> Result<(), Or<Failed>>
-    requires capture { IsCapture (capture_of setup.now items.now ticks) }
+    requires capture { IsCapture (capture_by format setup.now items.now ticks) }
     requires fits { All item.Fits items.now }
-    requires grain { setup.now.grain ≡ Tick }
-    ensures done { OnOk result (IsWritten (capture_of setup.now items.now ticks)
+    ensures done { OnOk result (IsWritten (capture_by format setup.now items.now ticks)
         (K.taken sink.old) (K.taken sink.new)) }
     ensures cause { IfErr result (λ e. IfFault e (λ f. Rose (K.faults sink.old) (K.faults
         sink.new))) }
     ensures cut_short { IfErr result (λ e. IfFault e (λ f. IsWrittenInPart
-        (capture_of setup.now items.now ticks) (K.taken sink.old) (K.taken sink.new))) }
+        (capture_by format setup.now items.now ticks) (K.taken sink.old) (K.taken sink.new))) }
     ensures nothing { IfErr result (λ e. IfNoMemory e (sink.new ≡ sink.old)) }
 {
     let Prepared {
@@ -170,20 +179,27 @@ fn write_items<K: Sink>(
         between,
         mut found,
         mut out,
-    } = prepare(alloc, setup, items, ticks)?;
+    } = prepare(alloc, format, setup, items, ticks)?;
     let claims = AllClaims {
         setup,
         count: parts.claims as usize,
         entries: parts.entries.as_slice(),
         table: parts.table.as_slice(),
     };
-    match put_result(&claims, between.as_slice(), &mut found, &mut out, sink) {
+    match put_result(
+        format,
+        &claims,
+        between.as_slice(),
+        &mut found,
+        &mut out,
+        sink,
+    ) {
         Ok(()) => Ok(()),
         Err(failed) => Err(Or::Fault(failed)),
     }
 }
 
-/// Gives a sink the result of a capture: the text that [`write_result`](capture_file::write_result)
+/// Gives a sink the result of a capture, in the format of the capture: the text that [`write_result`](capture_file::write_result)
 /// makes of its [`serial`](crate::serial) history, each packet as it is made. All memory is taken
 /// before the sink is given anything: beside what a history is made of, the bytes of the records
 /// between its claims, a flag for each input, and one buffer.
@@ -193,8 +209,6 @@ pub fn write_serial<K: Sink>(
     sink: &mut K,
 ) -> Result<(), Or<Failed>>
     requires fits { All item.Fits capture.now.items }
-    // A result of this format has no field for the frame of a tick.
-    requires grain { capture.now.setup.grain ≡ Tick }
     // The sink took the result of the serial history, of which nothing is left out, and in which no
     // activation changes a tick that has begun.
     ensures done { OnOk result (IsWritten capture.now (K.taken sink.old) (K.taken sink.new)) }
@@ -208,6 +222,7 @@ pub fn write_serial<K: Sink>(
 {
     write_items(
         alloc,
+        capture.format,
         &capture.setup,
         capture.items.as_slice(),
         capture.ticks,

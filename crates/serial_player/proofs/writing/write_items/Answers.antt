@@ -1,6 +1,6 @@
 use Rattle.std.proofs.Common.{◌≡◌, ◌+◌, ℕ, length, ap, refl, ◌∙◌, arith}
 use Rattle.std.proofs.lemmas.List.FromFn.{length-map-range_with_len}
-use Rattle.capture_file.specs.Capture.{capture_of}
+use Rattle.serial_player.specs.HistoryParts.{capture_by}
 use Rattle.capture_file.specs.Parts.{between_bytes}
 use Rattle.serial_player.specs.Serial.{packets_in}
 use Rattle.serial_player.proofs.History.{are_ready}
@@ -11,8 +11,8 @@ pub put_result-requires-clause-ready : goal.put_result-requires-clause-ready
 put_result-requires-clause-ready g c =
     let made = c.in_ok-parts.ensures in
     let parts = c.in_ok-parts.field-0.parts in
-    let whole = capture_of c.args.setup.now c.args.items.now c.args.ticks in
-    let of = λ (number : ℕ). between_bytes number parts.journal parts.replies in
+    let whole = capture_by c.args.format c.args.setup.now c.args.items.now c.args.ticks in
+    let of = λ (number : ℕ). between_bytes c.args.format number parts.journal parts.replies in
     let long : length c.as_slice-3.result.now ≡ packets_in whole + 1 =
     ap length (c.as_slice-3.ensures ∙ made.between)
     ∙ length-map-range_with_len of 0 (packets_in whole + 1) in
@@ -26,7 +26,7 @@ put_result-requires-clause-ready g c =
 
 pub returns-in-Ok-clause-done : goal.returns-in-Ok-clause-done
 returns-in-Ok-clause-done g c =
-    written_is (capture_of c.args.setup.now c.args.items.now c.args.ticks)
+    written_is (capture_by c.args.format c.args.setup.now c.args.items.now c.args.ticks)
     c.in_ok-parts.field-0 (record {
       setup = c.args.setup;
       count = c.in_ok-parts.field-0.parts.claims;
@@ -37,7 +37,7 @@ returns-in-Ok-clause-done g c =
 
 pub returns-clause-cut_short : goal.returns-clause-cut_short
 returns-clause-cut_short g c =
-    cut_short_is (capture_of c.args.setup.now c.args.items.now c.args.ticks)
+    cut_short_is (capture_by c.args.format c.args.setup.now c.args.items.now c.args.ticks)
     c.in_ok-parts.field-0 (record {
       setup = c.args.setup;
       count = c.in_ok-parts.field-0.parts.claims;
