@@ -10,8 +10,9 @@ use Rattle.atomic_table.specs.Seated.{TableId}
 use Rattle.input_rule.specs.declared.view.Shape.{Shape}
 use Rattle.input_rule.specs.declared.view.View.{View}
 use Rattle.input_rule.specs.Words.{AreLater, AreWords, HasTick, IsAbsent, IsPresent, block_at}
-use Rattle.input_rule.specs.Words.{block_len, block_start, closing, presence, sample_at, sample_of}
-use Rattle.input_rule.specs.Words.{sample_word, samples_at, words_len}
+use Rattle.input_rule.specs.Words.{block_len, closing, place_in_block, presence, sample_at}
+use Rattle.input_rule.specs.Words.{sample_of, sample_word, samples_at, word_in_block, words_len}
+use Rattle.input_rule.proofs.Planes.{place_back}
 use Rattle.input_rule.specs.Views.{wrote}
 use Rattle.input_rule.proofs.Later.{MayStore, later_self, later_then, may_store_closing}
 use Rattle.input_rule.proofs.Later.{may_store_presence, may_store_sample}
@@ -19,10 +20,20 @@ use Rattle.input_rule.proofs.Blocks.{block_cases, block_stays, block_there, pres
 use Rattle.input_cells.specs.Faces.{InputFace, SeatFace, face_of}
 use Rattle.input_cells.specs.Feeding.{Closes, IsFeeding, Sets, Spells, Stores, StoresSample}
 
+-- two places of one word are one
+same_place : (shape : Shape) (tick p q : ℕ) → p < block_len shape → q < block_len shape
+    → sample_word shape tick p ≡ sample_word shape tick q → p ≡ q
+same_place shape tick p q a b e =
+    let v : ℕ = word_in_block shape p in let w : ℕ = word_in_block shape q in
+    let row : ℕ = (tick - shape.from) * block_len shape in
+    let same : v ≡ w = omega (arith, e) in
+    sym (place_back shape p a) ∙ (ap (place_in_block shape) same ∙ place_back shape q b)
+
 -- one sample more
 pub spell_more : (a b c : SeatFace) (tick : ℕ) (block : List ℤ) (n : ℕ) → Spells a b tick block n
-    → StoresSample b c tick n (get_or block n (pos 0)) → Spells a c tick block (n + 1)
-spell_more a b c tick block n s t =
+    → StoresSample b c tick n (get_or block n (pos 0)) → n < block_len a.view.shape
+    → Spells a c tick block (n + 1)
+spell_more a b c tick block n s t inside =
     let shape : b.view.shape ≡ a.view.shape = ap (λ (z : SeatFace). z.view.shape) s.on.only in
     let wb : List ℕ = b.view.words in
     let p : ℕ = sample_word b.view.shape tick n in
@@ -43,7 +54,8 @@ spell_more a b c tick block n s t =
       low = λ word le. ap (λ (l : List ℕ). get_or l word 0) words_c
           ∙ (get_or-set_other wb p word t.word 0 (λ bad. let e =
           ap (λ (z : Shape). z.ticks) shape in
-          let q : ℕ = (tick - b.view.shape.from) * block_len b.view.shape in omega arith)
+          let q : ℕ = (tick - b.view.shape.from) * block_len b.view.shape in
+          let w : ℕ = word_in_block b.view.shape n in omega arith)
           ∙ s.low word le);
       spelt = λ place lt. dite (ℕ_discrete place n)
           (λ one. ap sample_of ((λ k. get_or (words_c k) (sample_word a.view.shape tick (one k)) 0)
@@ -53,8 +65,8 @@ spell_more a b c tick block n s t =
           (λ apart. ap sample_of
           (ap (λ (l : List ℕ). get_or l (sample_word a.view.shape tick place) 0) words_c
           ∙ get_or-set_other wb p (sample_word a.view.shape tick place) t.word 0
-          (λ bad. apart (let q : ℕ = (tick - a.view.shape.from) * block_len a.view.shape in
-          let e = bad ∙ sym here in omega arith))) ∙ s.spelt place (omega arith));
+          (λ bad. apart (same_place a.view.shape tick place n (omega arith) inside
+          (bad ∙ sym here)))) ∙ s.spelt place (omega arith));
     }
 
 -- none yet
@@ -99,13 +111,13 @@ module _ (pass : SeatFace) (one : InputFace) (id : TableId) (v : View)
       (subst (λ (z : Shape). HasTick z tick) seat_shape inside)
       (subst (λ (z : SeatFace). closing z.view.words ≤ tick) (sym same) still_open))
 
-  pub sample_may : (tick place start x : ℕ) → AreWords v.shape v.words → HasTick one.shape tick
+  pub sample_may : (tick place word x : ℕ) → AreWords v.shape v.words → HasTick one.shape tick
       → place < block_len one.shape → IsAbsent pass.view.shape pass.view.words tick → x < 2 ^ 32
-      → start ≡ block_start one.shape tick
-      → MayStore v.shape v.words (start + place) x
-  sample_may tick place start x shown inside below gone small is =
-      subst (λ (i : ℕ). MayStore v.shape v.words (i + place) x)
-      (sym (is ∙ ap (λ (z : Shape). block_start z tick) seat_shape))
+      → word ≡ sample_word one.shape tick place
+      → MayStore v.shape v.words word x
+  sample_may tick place word x shown inside below gone small is =
+      subst (λ (i : ℕ). MayStore v.shape v.words i x)
+      (sym (is ∙ ap (λ (z : Shape). sample_word z tick place) seat_shape))
       (may_store_sample v.shape v.words tick place x shown
       (subst (λ (z : Shape). HasTick z tick) seat_shape inside)
       (subst (λ (z : Shape). place < block_len z) seat_shape below) small
@@ -182,7 +194,8 @@ set_done a b c tick block s t inside len =
     (λ q lt. ap (λ (i : ℕ). sample_at z after tick i) (omega arith)
     ∙ (ap sample_of
     (get_or-set_other wb p (sample_word z tick q) 1 0 (λ bad. let n : ℕ =
-    (tick - z.from) * block_len z in omega arith)) ∙ s.spelt q lt)) in
+    (tick - z.from) * block_len z in let w : ℕ = word_in_block z q in omega arith))
+    ∙ s.spelt q lt)) in
     record {
       on = record {
         words = after;

@@ -2,6 +2,7 @@
 
 ghost use Rattle.std.specs.Prelude.{◌≡◌, ◌<◌, ◌≤◌, length};
 ghost use Rattle.input_rule.specs.Words.{HasTick, IsAbsent, block_len, closing, presence};
+ghost use Rattle.input_rule.specs.Words.{sample_word};
 ghost use Rattle.input_cells.specs.Faces.{face_of, unread};
 ghost use Rattle.input_cells.specs.Agreement.{AreTrue};
 ghost use Rattle.input_rule.specs.Views.{taken_in};
@@ -31,15 +32,15 @@ impl Model for InputFeeder {
 }
 
 impl InputFeeder {
-    /// Stores a sample of a tick of which no block is there yet.
-    fn store_sample(&mut self, table: &OneInput, tick: u64, place: usize, sample: i32)
+    /// Stores a sample of a tick of which no block is there yet, in its word.
+    fn store_sample(&mut self, table: &OneInput, tick: u64, place: usize, word: usize, sample: i32)
         requires table { face_of self.old ≡ table.now }
         requires tick { HasTick table.now.shape tick }
         requires place { place < block_len table.now.shape }
+        requires word { word ≡ sample_word table.now.shape tick place }
         requires absent { IsAbsent self.old.view.shape self.old.view.words tick }
         ensures { StoresSample self.old self.new tick place sample }
     {
-        let word = table.block_word(tick) + place;
         table
             .table
             .shared
@@ -54,8 +55,13 @@ impl InputFeeder {
         requires len { length samples.now ≡ block_len table.now.shape }
         ensures { Spells self.old self.new tick samples.now (length samples.now) }
     {
-        for place in 0..samples.len() {
-            self.store_sample(table, tick, place, samples[place]);
+        let channels = table.shape.channels as usize;
+        for frame in 0..table.shape.frames as usize {
+            for channel in 0..channels {
+                let place = frame * channels + channel;
+                let word = table.sample_word(tick, frame, channel);
+                self.store_sample(table, tick, place, word, samples[place]);
+            }
         }
     }
 

@@ -1,11 +1,11 @@
 //! The table of one input, and a reader's seat at it.
 
-ghost use Rattle.std.specs.Prelude.{Option, List, ℤ, pos, length, slice_index_or, ◌≡◌, ◌+◌, ◌*◌};
-ghost use Rattle.std.specs.Prelude.{◌<◌, ◌≤◌, ◌^◌, ◌↔◌, IfOk, IsTrue, ℕ, true, false};
+ghost use Rattle.std.specs.Prelude.{Option, List, ℤ, pos, length, slice_index_or, ◌≡◌, ◌+◌, ◌-◌};
+ghost use Rattle.std.specs.Prelude.{◌*◌, ◌<◌, ◌≤◌, ◌^◌, ◌↔◌, IfOk, IsTrue, ℕ, true, false};
 ghost use Rattle.std.specs.List.{Contains};
 ghost use Rattle.input_rule.specs.declared.view.HeardSample.{HeardSample};
 ghost use Rattle.input_rule.specs.Views.{HasMissed, HasSeen, closed_of, listened, looked, saw};
-ghost use Rattle.input_rule.specs.Words.{HasTick, block_len, block_start, presence};
+ghost use Rattle.input_rule.specs.Words.{HasTick, block_len, block_start, presence, sample_word};
 ghost use Rattle.packet_writer.specs.Heard.{HasFrames, channel_samples};
 ghost use Rattle.input_cells.specs.Faces.{HearsAt, face_of, unfed, unread};
 ghost use Rattle.input_cells.specs.Agreement.{HasHeard, IsHeardOf};
@@ -104,6 +104,37 @@ impl OneInput {
 }
 
 impl OneInput {
+    /// The sample word of a tick, at a frame and a channel. The next words are those of the frames
+    /// after it.
+    pub(crate) fn sample_word(&self, tick: u64, frame: usize, channel: usize) -> usize
+        requires tick { HasTick self.now.shape tick }
+        requires frame { frame ≤ self.now.shape.frames }
+        requires channel { channel < self.now.shape.channels }
+        ensures word { result ≡ block_start self.now.shape tick
+            + (channel * self.now.shape.frames + frame) }
+        ensures within { result + (self.now.shape.frames - frame) ≤ self.now.id.words }
+        ensures few { self.now.id.words < 2 ^ 63 }
+    {
+        self.block_word(tick) + (channel * self.shape.frames as usize + frame)
+    }
+
+    /// The sample word of a tick, at a place of its block.
+    pub(crate) fn word_of_place(&self, tick: u64, place: usize) -> usize
+        requires tick { HasTick self.now.shape tick }
+        requires place { place < block_len self.now.shape }
+        ensures { result ≡ sample_word self.now.shape tick place }
+    {
+        let channels = self.shape.channels as usize;
+        self.sample_word(tick, place / channels, place % channels)
+    }
+
+    /// Whether a part has the channels of the blocks.
+    fn has_channels(&self, part: Part) -> bool
+        ensures { IsTrue result ↔ (part.channels ≡ self.now.shape.channels) }
+    {
+        part.channels as u64 == self.shape.channels
+    }
+
     /// Whether the blocks have a given number of frames of the part's channels.
     fn has_room(&self, part: Part, frames: usize) -> bool
         requires { frames < 2 ^ 63 }
@@ -186,24 +217,23 @@ impl InputReader {
         table.table.shared.load::<Looks>(&mut self.seat, word) == 1
     }
 
-    /// The sample at a place of a block that was seen, by one load.
-    pub(crate) fn listen(&mut self, table: &OneInput, tick: u64, place: usize) -> i32
+    /// The sample at a place of a block that was seen, by one load of its word.
+    pub(crate) fn listen(&mut self, table: &OneInput, tick: u64, place: usize, word: usize) -> i32
         requires table { face_of self.old ≡ table.now }
         requires tick { HasTick table.now.shape tick }
         requires place { place < block_len table.now.shape }
+        requires word { word ≡ sample_word table.now.shape tick place }
         requires seen { HasSeen self.old.view tick }
         ensures heard { self.new
             ≡ record self.old { view = listened self.old.view tick place result } }
         ensures same { (h : HeardSample) → Contains self.old.view.heard h → h.tick ≡ tick
             → h.place ≡ place → h.value ≡ result }
     {
-        let word = table.block_word(tick) + place;
         sample_of(table.table.shared.load::<Hears>(&mut self.seat, word))
     }
 
     /// Copies the samples at places of a block that was seen, each a given number of places after
-    /// the one before, by one load each. Out of line, so that its loop keeps its registers.
-    #[inline(never)]
+    /// the one before, by one load each.
     fn copy(&mut self, table: &OneInput, tick: u64, first: usize, step: usize, out: &mut [i32])
         requires table { face_of self.old ≡ table.now }
         requires tick { HasTick table.now.shape tick }
@@ -217,7 +247,32 @@ impl InputReader {
             → HasHeard self.new.view tick (first + n * step) (slice_index_or out.new n (pos 0)) }
     {
         for n in 0..out.len() {
-            out[n] = self.listen(table, tick, first + n * step);
+            let place = first + n * step;
+            out[n] = self.listen(table, tick, place, table.word_of_place(tick, place));
+        }
+    }
+
+    /// Copies the samples of a channel of a block that was seen, from a frame on, by one load each:
+    /// their words stand one after the other. Out of line, so that its loop keeps its registers.
+    #[inline(never)]
+    fn copy_run(&mut self, table: &OneInput, tick: u64, part: Part, out: &mut [i32])
+        requires table { face_of self.old ≡ table.now }
+        requires tick { HasTick table.now.shape tick }
+        requires seen { HasSeen self.old.view tick }
+        requires channels { part.channels ≡ table.now.shape.channels }
+        requires channel { part.channel < part.channels }
+        requires room { (part.frame + length out.old) * part.channels ≤ block_len table.now.shape }
+        requires short { block_len table.now.shape < 2 ^ 63 }
+        ensures hears { HearsAt self.old self.new }
+        ensures len { length out.new ≡ length out.old }
+        ensures heard { (n : ℕ) → n < length out.old → HasHeard self.new.view tick
+            (part.frame * part.channels + part.channel + n * part.channels)
+            (slice_index_or out.new n (pos 0)) }
+    {
+        let first = part.frame as usize * part.channels + part.channel as usize;
+        let start = table.sample_word(tick, part.frame as usize, part.channel as usize);
+        for n in 0..out.len() {
+            out[n] = self.listen(table, tick, first + n * part.channels, start + n);
         }
     }
 
@@ -234,11 +289,13 @@ impl InputReader {
             → HasFrames b part.channels (part.frame + length out.old)
             → out.new ≡ channel_samples b part.channels part.channel part.frame (length out.old) }
     {
-        if table.has_room(part, out.len()) {
+        if !table.has_room(part, out.len()) {
+            out.fill(0);
+        } else if table.has_channels(part) {
+            self.copy_run(table, tick, part, out);
+        } else {
             let first = part.frame as usize * part.channels + part.channel as usize;
             self.copy(table, tick, first, part.channels, out);
-        } else {
-            out.fill(0);
         }
     }
 }

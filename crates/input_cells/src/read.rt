@@ -90,7 +90,8 @@ impl ReadPass {
     {
         let one = &table.inputs[input as usize];
         let seat = &mut self.seats[input as usize];
-        seat.listen(one, tick, one.place(frame, channel))
+        let word = one.sample_word(tick, frame as usize, channel as usize);
+        seat.listen(one, tick, one.place(frame, channel), word)
     }
 
     /// Copies the samples of a channel of an input's block, which an earlier look of this pass saw,

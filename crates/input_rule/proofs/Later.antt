@@ -9,8 +9,9 @@ use Rattle.input_rule.specs.declared.view.Shape.{Shape}
 use Rattle.input_rule.specs.declared.view.Look.{Look}
 use Rattle.input_rule.specs.declared.view.HeardSample.{HeardSample}
 use Rattle.input_rule.specs.Words.{AreLater, AreWords, HasTick, IsAbsent, block_len, closing}
-use Rattle.input_rule.specs.Words.{presence, sample_of, sample_word, words_len}
+use Rattle.input_rule.specs.Words.{presence, sample_of, sample_word, word_in_block, words_len}
 use Rattle.input_rule.specs.Rule.{IsLook, IsHeard}
+use Rattle.input_rule.proofs.Planes.{word_below}
 
 pub later_self : (shape : Shape) (words : List ℕ) → AreLater shape words words
 later_self shape words = record {
@@ -63,15 +64,18 @@ presence_low : (shape : Shape) (tick : ℕ) → HasTick shape tick → presence 
 presence_low shape tick inside = let a = inside.0 in let b = inside.1 in omega arith
 
 sample_high : (shape : Shape) (tick place : ℕ) → shape.ticks < sample_word shape tick place
-sample_high shape tick place = let q : ℕ = (tick - shape.from) * block_len shape in omega arith
+sample_high shape tick place = let q : ℕ = (tick - shape.from) * block_len shape in
+    let w : ℕ = word_in_block shape place in omega arith
 
 pub sample_inside : (shape : Shape) (tick place : ℕ) → HasTick shape tick → place < block_len shape
     → sample_word shape tick place < words_len shape
 sample_inside shape tick place inside below =
     let a = inside.0 in let b = inside.1 in
     let row : tick - shape.from < shape.ticks = omega arith in
-    let m : (tick - shape.from) * block_len shape + place < block_len shape * shape.ticks =
-    mul-add-lt (tick - shape.from) (block_len shape) place shape.ticks row below in
+    let w : ℕ = word_in_block shape place in
+    let m : (tick - shape.from) * block_len shape + w < block_len shape * shape.ticks =
+    mul-add-lt (tick - shape.from) (block_len shape) w shape.ticks row (word_below shape place below)
+    in
     let q : ℕ = (tick - shape.from) * block_len shape in
     let n : ℕ = shape.ticks * block_len shape in omega arith
 
@@ -90,10 +94,12 @@ same_sample : (shape : Shape) (s p t q : ℕ) → HasTick shape s → p < block_
     → HasTick shape t → q < block_len shape
     → sample_word shape s p ≡ sample_word shape t q → s ≡ t
 same_sample shape s p t q a l b m e =
-    let at : (s - shape.from) * block_len shape + p ≡ (t - shape.from) * block_len shape + q =
+    let v : ℕ = word_in_block shape p in let w : ℕ = word_in_block shape q in
+    let at : (s - shape.from) * block_len shape + v ≡ (t - shape.from) * block_len shape + w =
     (let x : ℕ = (s - shape.from) * block_len shape in
     let y : ℕ = (t - shape.from) * block_len shape in omega arith) in
-    let rows = (same_from_place (s - shape.from) p (t - shape.from) q (block_len shape) l m at).0 in
+    let rows = (same_from_place (s - shape.from) v (t - shape.from) w (block_len shape)
+    (word_below shape p l) (word_below shape q m) at).0 in
     let x = a.0 in let y = b.0 in omega arith
 
 -- a sample of a block that is not there

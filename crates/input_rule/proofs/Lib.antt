@@ -1,3 +1,4 @@
+pub mod Planes
 pub mod Later
 pub mod Steps
 pub mod Blocks

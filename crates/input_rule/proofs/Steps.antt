@@ -18,7 +18,8 @@ use Rattle.input_rule.specs.declared.view.View.{View}
 use Rattle.input_rule.specs.declared.view.Look.{Look}
 use Rattle.input_rule.specs.declared.view.HeardSample.{HeardSample}
 use Rattle.input_rule.specs.Words.{AreWords, HasTick, IsPresent, block_len, closing, first_words}
-use Rattle.input_rule.specs.Words.{presence, sample_at, sample_of, sample_word}
+use Rattle.input_rule.specs.Words.{place_in_block, presence, sample_at, sample_of, sample_word}
+use Rattle.input_rule.specs.Words.{word_in_block}
 use Rattle.input_rule.specs.Views.{HasSeen, HasMissed, closed_of, feeder, last_of, listened, looked}
 use Rattle.input_rule.specs.Views.{reader, saw, spent, taken_in, wrote}
 use Rattle.input_rule.specs.Rule.{Fits, Holds, IsHeard, IsLook, Keeps}
@@ -26,6 +27,7 @@ use Rattle.input_rule.specs.Plays.{hears, learns, looks, presence_tick, sample_p
 use Rattle.input_rule.specs.Plays.{sees, writes}
 use Rattle.input_rule.specs.StepsKeep.{StoresSample, StoresPresence, StoresClosing}
 use Rattle.list_laws.proofs.Items.{set_keeps}
+use Rattle.input_rule.proofs.Planes.{place_back, word_below}
 use Rattle.input_rule.proofs.Later.{MayStore, heard_stays, later_then, look_stays}
 use Rattle.input_rule.proofs.Later.{may_store_closing, may_store_presence, may_store_sample}
 
@@ -143,14 +145,20 @@ hears_allowed shape slots id m i tick place live inside below at_word seen s kep
     let z : Shape = m.0.shape in let same : z ≡ shape = f.bound live in
     let r : ℕ = get_or s.words i 0 in
     let row : ℕ = (tick - z.from) * block_len z in
-    let offset : i - (1 + z.ticks) ≡ row + place = omega arith in
+    let w_in : ℕ = word_in_block z place in
+    let w_below : w_in < block_len z = word_below z place below in
+    let offset : i - (1 + z.ticks) ≡ row + w_in = omega arith in
     let t : ℕ = sample_tick z i in let p : ℕ = sample_place z i in
     let back : t ≡ tick =
     (let e : (i - (1 + z.ticks)) / block_len z ≡ tick - z.from =
     ap (λ (n : ℕ). n / block_len z) offset
-    ∙ div-mul-add (tick - z.from) (block_len z) place below in let a = inside.0 in omega arith) in
-    let here : p ≡ place = ap (λ (n : ℕ). n % block_len z) offset
-    ∙ mod-mul-add (tick - z.from) (block_len z) place below in
+    ∙ div-mul-add (tick - z.from) (block_len z) w_in w_below in let a = inside.0 in
+    omega arith) in
+    let here : p ≡ place =
+    ap (λ (n : ℕ). place_in_block z n)
+    (ap (λ (n : ℕ). n % block_len z) offset
+    ∙ mod-mul-add (tick - z.from) (block_len z) w_in w_below)
+    ∙ place_back z place below in
     let within : HasTick shape t =
     subst (λ (x : Shape × ℕ). HasTick x.0 x.1) (λ k. (same k, sym back k)) inside in
     let beneath : p < block_len shape =
@@ -163,7 +171,7 @@ hears_allowed shape slots id m i tick place live inside below at_word seen s kep
     ap (λ (n : ℕ). get_or words (presence shape n) 0) (back ∙ sym seen.tick_is)
     ∙ (All-contains (IsLook shape words) m.0.looks seen.look f.looks seen.among).seen seen.saw_it in
     let small : r < 2 ^ 32 = (let q : ℕ = (t - shape.from) * block_len shape in
-    let b = h.shown.spelt (sample_word shape t p) (omega arith) in
+    let v : ℕ = word_in_block shape p in let b = h.shown.spelt (sample_word shape t p) (omega arith) in
     omega arith) in
     let again : (d : HeardSample) → Contains m.0.heard d → d.tick ≡ t → d.place ≡ p
     → d.value ≡ sample_of r = λ d among its_tick its_place.

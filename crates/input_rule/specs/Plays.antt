@@ -5,7 +5,7 @@ use Rattle.atomic_table.specs.Table.{Me, Step}
 use Rattle.input_rule.specs.declared.view.Shape.{Shape}
 use Rattle.input_rule.specs.declared.view.View.{View}
 use Rattle.input_rule.specs.declared.view.HeardSample.{HeardSample}
-use Rattle.input_rule.specs.Words.{block_len, sample_of}
+use Rattle.input_rule.specs.Words.{block_len, place_in_block, sample_of}
 use Rattle.input_rule.specs.Views.{HasSeen, HasMissed, closed_of, listened, looked, saw, wrote}
 use Rattle.input_rule.specs.Rule.{IsLook, IsHeard}
 
@@ -23,7 +23,7 @@ sample_tick shape word = shape.from + (word - (1 + shape.ticks)) / block_len sha
 
 -- the place of a sample's word in its block
 abbrev pub sample_place : Shape → ℕ → ℕ
-sample_place shape word = (word - (1 + shape.ticks)) % block_len shape
+sample_place shape word = place_in_block shape ((word - (1 + shape.ticks)) % block_len shape)
 
 -- the feeder stored a word
 abbrev pub writes : Step ℕ → Sitting → ℕ → Sitting → Type 0

@@ -1,6 +1,6 @@
 -- What the words of one input's table show: a closing number, and blocks. (This project's own.)
-use Rattle.std.specs.Prelude.{ℕ, ◌≡◌, ◌+◌, ◌-◌, ◌*◌, ◌^◌, ◌<◌, ◌≤◌, ◌==◌, ◌&&◌, nat_le}
-use Rattle.std.specs.Prelude.{nat_lt, Bool, List, ◌∷◌, length, map, replicate, slice_index}
+use Rattle.std.specs.Prelude.{ℕ, ◌≡◌, ◌+◌, ◌-◌, ◌*◌, ◌/◌, ◌%◌, ◌^◌, ◌<◌, ◌≤◌, ◌==◌, ◌&&◌}
+use Rattle.std.specs.Prelude.{nat_le, nat_lt, Bool, List, ◌∷◌, length, map, replicate, slice_index}
 use Rattle.std.specs.Prelude.{if◌then◌else◌, Option, Some, None, ℤ, pos, ◌-ℤ◌}
 use Rattle.std.specs.List.{range_with_len}
 use Rattle.input_rule.specs.declared.view.Shape.{Shape}
@@ -27,9 +27,18 @@ presence shape tick = 1 + (tick - shape.from)
 abbrev pub block_start : Shape → ℕ → ℕ
 block_start shape tick = 1 + (shape.ticks + (tick - shape.from) * block_len shape)
 
+-- the word of a place of a block, of those of the block: channel by channel, and each channel in
+-- frame order
+abbrev pub word_in_block : Shape → ℕ → ℕ
+word_in_block shape place = place % shape.channels * shape.frames + place / shape.channels
+
+-- the place of a word of a block
+abbrev pub place_in_block : Shape → ℕ → ℕ
+place_in_block shape word = word % shape.frames * shape.channels + word / shape.frames
+
 -- the sample word of a tick and a place in its block
 abbrev pub sample_word : Shape → ℕ → ℕ → ℕ
-sample_word shape tick place = block_start shape tick + place
+sample_word shape tick place = block_start shape tick + word_in_block shape place
 
 -- the words at the start: the closing number is the first tick, and there is no block
 abbrev pub first_words : Shape → List ℕ

@@ -3,8 +3,8 @@
 use std::collections::LinkedList;
 
 /// How the words of one input's table lie: the closing number, then a presence word for each tick,
-/// then the samples of each tick, frame by frame and each frame in channel order. The pace has a
-/// table with no channels.
+/// then the samples of each tick, channel by channel and each channel in frame order. So those of a
+/// channel stand one after the other. The pace has a table with no channels.
 #[derive(Clone, Copy, Debug, PartialEq, Eq)]
 pub struct Shape {
     /// The input's number.

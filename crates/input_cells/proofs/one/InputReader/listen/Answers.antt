@@ -5,7 +5,8 @@ use Rattle.input_rule.specs.declared.view.View.{View}
 use Rattle.input_rule.specs.Views.{HasSeen, listened}
 use Rattle.input_rule.specs.Plays.{sample_place, sample_tick}
 use Rattle.std.specs.List.{Contains}
-use Rattle.input_rule.specs.Words.{HasTick, block_len, block_start}
+use Rattle.input_rule.specs.Words.{HasTick, block_len, sample_word, words_len}
+use Rattle.input_rule.proofs.Later.{sample_inside}
 use Rattle.input_rule.proofs.Steps.{hears_allowed}
 use Rattle.input_cells.proofs.Seats.{listened_at, place_back, tick_back, whole}
 use Rattle.input_cells.specs.Faces.{InputFace, SeatFace}
@@ -18,16 +19,17 @@ load-requires c =
     ∙ ap (λ z. z.view.shape) (sym c.self.view_is) in
     let inside = subst (λ (z : Shape). HasTick z c.args.tick) shape c.requires.tick in
     let below = subst (λ (z : Shape). c.args.place < block_len z) shape c.requires.place in
-    let few = subst
-    (λ (z : InputFace). c.block_word.result + block_len c.args.table.now.shape ≤ z.id.words)
-    (sym c.table.view_is) c.block_word.ensures.within in (
+    let words : c.args.table.now.id.words ≡ words_len c.args.table.now.shape =
+    subst (λ (z : InputFace). z.id.words ≡ words_len z.shape) c.table.view_is
+    c.table.invariant.words_are in (
       ap (λ z. z.id) c.self.view_is
           ∙ (ap (λ (z : InputFace). z.id) c.requires.table ∙ sym (ap (λ z. z.id) c.table.view_is)),
-      (let lt = c.requires.place in omega arith),
+      (let lt = sample_inside c.args.table.now.shape c.args.tick c.args.place c.requires.tick
+          c.requires.place in let id = ap (λ (z : InputFace). z.id.words) c.table.view_is in
+          omega arith),
       hears_allowed c.table.inside.table.shared.key _ _ _ _ c.args.tick c.args.place
           c.self.invariant.0 inside below
-          (ap (λ (n : ℕ). n + c.args.place) (c.block_word.ensures.word
-          ∙ ap (λ (z : Shape). block_start z c.args.tick) shape))
+          (c.requires.word ∙ ap (λ (z : Shape). sample_word z c.args.tick c.args.place) shape)
           (subst (λ (z : SeatFace). HasSeen z.view c.args.tick) (sym c.self.view_is)
           c.requires.seen),
     )
@@ -40,8 +42,8 @@ returns-clause-heard c =
     ∙ ap (λ z. z.view.shape) (sym c.self.view_is) in
     let inside = subst (λ (z : Shape). HasTick z c.args.tick) shape c.requires.tick in
     let below = subst (λ (z : Shape). c.args.place < block_len z) shape c.requires.place in
-    let word = ap (λ (n : ℕ). n + c.args.place) (c.block_word.ensures.word
-    ∙ ap (λ (z : Shape). block_start z c.args.tick) shape) in
+    let word = c.requires.word ∙ ap (λ (z : Shape). sample_word z c.args.tick c.args.place) shape
+    in
     let heard = listened_at v c.args.tick c.args.place _ _ (to_z w32 (of_z w32 c.sample_of.result))
     inside below word (sym c.sample_of.ensures ∙ sym (whole _ c.sample_of.type_inv)) in
     λ k. record {
@@ -60,8 +62,8 @@ returns-clause-same c h among its_tick its_place =
     ∙ ap (λ z. z.view.shape) (sym c.self.view_is) in
     let inside = subst (λ (z : Shape). HasTick z c.args.tick) shape c.requires.tick in
     let below = subst (λ (z : Shape). c.args.place < block_len z) shape c.requires.place in
-    let word = ap (λ (n : ℕ). n + c.args.place) (c.block_word.ensures.word
-    ∙ ap (λ (z : Shape). block_start z c.args.tick) shape) in
+    let word = c.requires.word ∙ ap (λ (z : Shape). sample_word z c.args.tick c.args.place) shape
+    in
     let mine = subst (λ (z : SeatFace). Contains z.view.heard h) (sym c.self.view_is) among in
     c.load.ensures.2.2 h mine
     (its_tick ∙ sym (ap (sample_tick v.shape) word

@@ -1,14 +1,14 @@
-use Rattle.std.proofs.Common.{◌≡◌, ◌+◌, ◌*◌, ◌<◌, ◌∙◌, refl, sym, ap, subst, arith, w32, to_z, of_z}
+use Rattle.std.proofs.Common.{◌≡◌, ◌+◌, ◌*◌, ◌<◌, ◌≤◌, ◌∙◌, refl, sym, ap, subst, arith, w32, to_z, of_z}
 use Rattle.std.specs.List.{Contains}
 use Rattle.input_rule.specs.declared.view.HeardSample.{HeardSample}
 use Rattle.input_rule.specs.declared.view.View.{View}
 use Rattle.input_rule.specs.Views.{HasSeen, listened}
-use Rattle.input_rule.specs.Words.{HasTick}
+use Rattle.input_rule.specs.Words.{HasTick, sample_word}
 use Rattle.input_cells.specs.Faces.{Grows, InputFace}
 use Rattle.input_cells.proofs.Growing.{grows_changed, listened_more}
 use Rattle.input_cells.proofs.Passes.{inside, one_changed, one_fits, one_had, one_has, one_read}
 use Rattle.input_cells.proofs.Passes.{one_shape}
-use Rattle.input_cells.proofs.Seats.{whole}
+use Rattle.input_cells.proofs.Seats.{frame_word, whole}
 use Rattle.input_cells.proofs.read.ReadPass.sample.Goals as goal
 
 pub place-requires-clause-frame : goal.place-requires-clause-frame
@@ -26,6 +26,30 @@ place-requires-clause-some_tick c =
     one_shape (λ s. HasTick s c.args.tick) _ _ c.args.input _ c.table.view_is
     c.index-one.ensures c.requires.tick in
     let a = at.0 in let b = at.1 in omega arith
+
+pub sample_word-word-requires-clause-tick : goal.sample_word-word-requires-clause-tick
+sample_word-word-requires-clause-tick c =
+    one_shape (λ s. HasTick s c.args.tick) _ _ c.args.input _ c.table.view_is c.index-one.ensures
+    c.requires.tick
+
+pub sample_word-word-requires-clause-frame : goal.sample_word-word-requires-clause-frame
+sample_word-word-requires-clause-frame c =
+    let below = one_shape (λ s. c.args.frame < s.frames) _ _ c.args.input _ c.table.view_is
+    c.index-one.ensures c.requires.frame in omega (arith, below)
+
+pub sample_word-word-requires-clause-channel : goal.sample_word-word-requires-clause-channel
+sample_word-word-requires-clause-channel c =
+    one_shape (λ s. c.args.channel < s.channels) _ _ c.args.input _ c.table.view_is
+    c.index-one.ensures c.requires.channel
+
+pub listen-requires-clause-word : goal.listen-requires-clause-word
+listen-requires-clause-word c =
+    let s = c.index-one.result.now.shape in
+    let below = one_shape (λ s. c.args.channel < s.channels) _ _ c.args.input _ c.table.view_is
+    c.index-one.ensures c.requires.channel in
+    c.sample_word-word.ensures.word
+    ∙ (frame_word s c.args.tick c.args.frame c.args.channel below
+    ∙ ap (sample_word s c.args.tick) (sym c.place.ensures.place))
 
 pub listen-requires-clause-tick : goal.listen-requires-clause-tick
 listen-requires-clause-tick c =
