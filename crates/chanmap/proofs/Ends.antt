@@ -6,14 +6,16 @@ use Rattle.chan_io.specs.Streams.{BoundedRead}
 use Rattle.capture_file.specs.declared.fault.CaptureKind.{CaptureKind}
 use Rattle.chanmap.specs.declared.command.Command.{Command}
 use Rattle.chanmap.specs.declared.input.TheConstants.{MOST_BYTES}
+use Rattle.chanmap.specs.declared.end.SdpRefusal.{SdpRefusal}
 use Rattle.chanmap.specs.declared.end.End.{End}
 use Rattle.chanmap.specs.declared.end.End.TheVariants.{Usage, ReadFault, WriteFault, Refused}
-use Rattle.chanmap.specs.declared.end.End.TheVariants.{TooLong, NoMemory}
+use Rattle.chanmap.specs.declared.end.End.TheVariants.{TooLong, SdpRefused, NoMemory}
 use Rattle.chanmap.specs.End.{IsToldEnd, status_of}
 use Rattle.chanmap.specs.World.{World, LineFailed, ReadFailed, WriteFailed}
 use Rattle.chanmap.specs.Top.{HasRead, Holds, IsAnswer, IsCause, IsDone, IsFaultAt, IsInput, IsRun}
-use Rattle.chanmap.specs.Top.{IsRunOf}
-use Rattle.chanmap.proofs.Tables.{held, known, longer, short, sound, well_known}
+use Rattle.chanmap.specs.Top.{IsRefusal, IsRunOf}
+use Rattle.chanmap.proofs.Tables.{answered_input, held, known, longer, made, one_way, short, sound}
+use Rattle.chanmap.proofs.Tables.{well_known}
 
 -- ---- what cannot be
 
@@ -25,6 +27,16 @@ answered command before after bytes told text at kind read holds answer fault =
     let same = held command before after bytes told read holds in
     sound command told text at kind
     (subst (λ (b : List ℕ). IsAnswer command b text) same answer) fault
+
+-- and a capture is made of it
+taken : (command : Command) (before after : World) (bytes told text : List ℕ)
+    (refusal : SdpRefusal) → HasRead command before after bytes → Holds command before told
+    → IsAnswer command bytes text → IsRefusal command told refusal → ⊥
+taken command before after bytes told text refusal read holds answer refused =
+    let same = held command before after bytes told read holds in
+    made command told refusal
+    (answered_input command told text
+    (subst (λ (b : List ℕ). IsAnswer command b text) same answer)) refused
 
 -- what was held and read is not too long
 shorter : (command : Command) (before after : World) (bytes told : List ℕ)
@@ -51,6 +63,10 @@ completes command before after (Refused fault) told cause holds fits input calm 
     absurd (cause.faulty.none (subst (IsInput command) (sym same) input))
 completes command before after TooLong told cause holds fits input calm quiet =
     let long = longer command before after told cause holds in absurd (omega (arith, long, fits))
+completes command before after (SdpRefused refusal) told cause holds fits input calm quiet =
+    let same = held command before after cause.bytes told cause.read holds in
+    absurd (made command cause.bytes refusal (subst (IsInput command) (sym same) input)
+    cause.refused)
 completes command before after NoMemory told cause holds fits input calm quiet = inr refl
 
 -- bytes with a fault are refused
@@ -68,7 +84,29 @@ refuses command before after WriteFault told at kind cause holds fits fault calm
 refuses command before after (Refused other) told at kind cause holds fits fault calm = inl refl
 refuses command before after TooLong told at kind cause holds fits fault calm =
     let long = longer command before after told cause holds in absurd (omega (arith, long, fits))
+refuses command before after (SdpRefused refusal) told at kind cause holds fits fault calm =
+    absurd (one_way command told cause.bytes at kind refusal fault cause.refused)
 refuses command before after NoMemory told at kind cause holds fits fault calm = inr refl
+
+-- bytes of which no capture is made are refused
+declines : (command : Command) (before after : World) (end : End) (told : List ℕ)
+    (refusal : SdpRefusal) → IsCause command before after end → Holds command before told
+    → length told ≤ MOST_BYTES → IsRefusal command told refusal → (ReadFailed before after → ⊥)
+    → (status_of end ≡ 10) ⊎ (status_of end ≡ 12)
+declines command before after Usage told refusal cause holds fits refused calm = absurd cause
+declines command before after ReadFault told refusal cause holds fits refused calm =
+    absurd (calm cause.0)
+declines command before after WriteFault told refusal cause holds fits refused calm =
+    let cut = cause.1 in
+    absurd (taken command before after cut.bytes told cut.given.text refusal cut.read holds
+    cut.given.answer refused)
+declines command before after (Refused fault) told refusal cause holds fits refused calm =
+    absurd (one_way command cause.bytes told fault.at fault.kind refusal cause.faulty.first refused)
+declines command before after TooLong told refusal cause holds fits refused calm =
+    let long = longer command before after told cause holds in absurd (omega (arith, long, fits))
+declines command before after (SdpRefused other) told refusal cause holds fits refused calm =
+    inl refl
+declines command before after NoMemory told refusal cause holds fits refused calm = inr refl
 
 -- more bytes than the most are too long
 stops : (command : Command) (before after : World) (end : End) (told : List ℕ)
@@ -81,6 +119,8 @@ stops command before after WriteFault told cause holds long calm =
 stops command before after (Refused fault) told cause holds long calm =
     absurd (shorter command before after cause.bytes told cause.read holds long)
 stops command before after TooLong told cause holds long calm = inl refl
+stops command before after (SdpRefused refusal) told cause holds long calm =
+    absurd (shorter command before after cause.bytes told cause.read holds long)
 stops command before after NoMemory told cause holds long calm = inr refl
 
 -- no end has the status of what is done
@@ -90,6 +130,7 @@ not_done ReadFault is = absurd cc
 not_done WriteFault is = absurd cc
 not_done (Refused fault) is = absurd cc
 not_done TooLong is = absurd cc
+not_done (SdpRefused refusal) is = absurd cc
 not_done NoMemory is = absurd cc
 
 -- ---- runs
@@ -106,6 +147,9 @@ ends_well command before after done bounded = record {
   refuses = λ told at kind holds fits fault calm.
       absurd (answered command before after done.bytes told done.given.text at kind done.read holds
       done.given.answer fault);
+  declines = λ told refusal holds fits refused calm.
+      absurd (taken command before after done.bytes told done.given.text refusal done.read holds
+      done.given.answer refused);
   stops = λ told holds long calm.
       absurd (shorter command before after done.bytes told done.read holds long);
 }
@@ -126,6 +170,9 @@ ends_badly command before after end status cause bounded told = record {
   refuses = λ bytes at kind holds fits fault calm.
       rw told.status_is
       (refuses command before after end bytes at kind cause holds fits fault calm);
+  declines = λ bytes refusal holds fits refused calm.
+      rw told.status_is
+      (declines command before after end bytes refusal cause holds fits refused calm);
   stops = λ bytes holds long calm.
       rw told.status_is (stops command before after end bytes cause holds long calm);
 }

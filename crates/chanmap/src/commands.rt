@@ -1,3 +1,5 @@
 //! What each command does, a file a command.
 
+pub(crate) mod from_sdp;
+pub(crate) mod sdp;
 pub(crate) mod serial;

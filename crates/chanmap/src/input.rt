@@ -5,7 +5,6 @@ ghost use Rattle.chan_io.specs.Causes.{Rose};
 ghost use Rattle.chan_io.specs.Streams.{BoundedRead, WholeRead};
 ghost use Rattle.capture_file.specs.Walk.{IfFault};
 ghost use Rattle.capture_file.specs.declared.fault.CaptureFault.{CaptureFault};
-ghost use Rattle.map_entry.specs.declared.grain.Grain.TheVariants.{Tick};
 ghost use Rattle.chanmap.specs.Captures.{IsNoCapture, IsWholeInput};
 ghost use Rattle.chanmap.specs.Unread.{IsUnread};
 
@@ -39,7 +38,6 @@ pub(crate) fn read_input<S: Source>(alloc: Global, src: &mut S) -> Result<Vec<u8
 /// Returns the capture that all of these bytes are, or their first fault.
 pub(crate) fn read_all<'a>(alloc: Global, bytes: &'a [u8]) -> Result<Capture<'a>, Or<CaptureFault>>
     ensures found { IfOk result (IsWholeInput bytes.now) }
-    ensures grain { IfOk result (λ capture. capture.setup.grain ≡ Tick) }
     ensures fault { IfErr result (λ e. IfFault e (IsNoCapture bytes.now)) }
 {
     let (capture, place) = read_capture(alloc, bytes)?;

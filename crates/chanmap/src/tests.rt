@@ -1,7 +1,9 @@
 //! Runs over objects in memory.
 
 mod clients;
+mod descriptions;
 mod faults;
+mod frames;
 mod requests;
 mod results;
 
@@ -506,12 +508,17 @@ fn full_sink(rt: HostRuntime) -> Result<(), Fail> {
 #[test]
 fn bad_words_and_long_input(rt: HostRuntime) -> Result<(), Fail> {
     let alloc = rt.alloc();
-    let usage = "usage: chanmap serial\n";
+    let usage = "usage: chanmap serial | sdp | from-sdp\n";
     for words in [
         [].as_slice(),
         &["play"],
         &["serial", "serial"],
         &["serial "],
+        &["sdp", "sdp"],
+        &["from-sdp"],
+        &["from-sdp", "0"],
+        &["from-sdp", "241"],
+        &["from-sdp", "48", "48"],
     ] {
         let ran = run(alloc, words, capture(alloc, TWO_TICKS)?, NO_FAULT)?;
         expect(&rt, &ran, 2, &[], usage);

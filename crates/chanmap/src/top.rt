@@ -12,6 +12,8 @@ ghost use Rattle.chanmap.specs.declared.end.End.TheVariants.{NoMemory};
 ghost use Rattle.chanmap.specs.declared.input.TheConstants.{MOST_BYTES};
 
 use crate::command::Command;
+use crate::commands::from_sdp::from_sdp;
+use crate::commands::sdp::sdp;
 use crate::commands::serial::serial;
 use crate::end::{End, tell};
 use crate::input::read_input;
@@ -48,6 +50,14 @@ fn run<S: Source, K: Sink>(
             let bytes = read_input(alloc, src)?;
             serial(alloc, &bytes, out)
         }
+        Command::Sdp => {
+            let bytes = read_input(alloc, src)?;
+            sdp(alloc, &bytes, out)
+        }
+        Command::FromSdp { frames } => {
+            let bytes = read_input(alloc, src)?;
+            from_sdp(alloc, frames, &bytes, out)
+        }
     }
 }
 
@@ -67,11 +77,12 @@ pub fn without_words<X: Sink>(err: &mut X) -> u8
 /// | status | comes | line |
 /// |---|---|---|
 /// | 0 | `out` took the whole answer | none |
-/// | 2 | exactly where the words are those of no command | `usage: chanmap serial` |
+/// | 2 | exactly where the words are those of no command | `usage: chanmap serial \| sdp \| from-sdp` |
 /// | 3 | only where the source's count of faults rose | `read fault` |
 /// | 4 | only where the count of `out` rose, which took a front of the answer | `write fault` |
 /// | 5 | all was read, and the bytes are no input of the command | `refused at P: KIND` |
 /// | 7 | `MOST_BYTES` + 1 bytes were read | `too long` |
+/// | 10 | all was read, and no capture is made of the session description | `sdp refused: REASON` |
 /// | 12 | memory ran out | `no memory` |
 pub fn chanmap<S: Source, K: Sink, X: Sink>(
     alloc: Global,

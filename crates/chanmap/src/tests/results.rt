@@ -73,7 +73,13 @@ fn whole_text(alloc: Global, bytes: &[u8]) -> Result<Vec<u8>, Fail> {
     };
     let history = serial(alloc, &capture)?;
     let mut text = Vec::new(alloc);
-    write_result(alloc, &capture.setup.device, &history, &mut text)?;
+    write_result(
+        alloc,
+        &capture.setup.device,
+        capture.format,
+        &history,
+        &mut text,
+    )?;
     Ok(text)
 }
 

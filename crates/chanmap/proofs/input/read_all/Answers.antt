@@ -1,6 +1,5 @@
 use Rattle.std.proofs.Common.{arith}
 use Rattle.std.proofs.lemmas.Result.{err_from_is_err_and}
-use Rattle.capture_file.proofs.Grains.{capture_grain}
 use Rattle.chanmap.proofs.Inputs.{refused, trailing, whole_input}
 use Rattle.chanmap.proofs.input.read_all.Goals as goal
 
@@ -15,10 +14,6 @@ returns-then-place-bytes-clause-found c =
     let read = c.in_ok-capture.ensures in
     whole_input c.args.bytes.now c.in_ok-capture.capture c.in_ok-capture.place
     (omega arith) read.found read.only read.exact
-
-pub returns-then-place-bytes-clause-grain : goal.returns-then-place-bytes-clause-grain
-returns-then-place-bytes-clause-grain c =
-    capture_grain c.in_ok-capture.capture _ c.in_ok-capture.ensures.found.text
 
 pub returns-clause-fault : goal.returns-clause-fault
 returns-clause-fault c =
