@@ -12,14 +12,23 @@ from typing import Any, Optional
 
 from records import http
 
-MAGICS = {b"CHMCAP1\n": "capture", b"CHMRES1\n": "result"}
+# The first bytes of a text: its kind and its format.
+MAGICS = {
+    b"CHMCAP1\n": ("capture", 1),
+    b"CHMCAP2\n": ("capture", 2),
+    b"CHMRES1\n": ("result", 1),
+    b"CHMRES2\n": ("result", 2),
+}
 MAGIC_LENGTH = 8
 RECORD_HEAD_LENGTH = 5
 END_TAG = ord("E")
+GRAIN_TAG = ord("G")  # in captures of format 2 alone
 
 UNROUTED = 0xFF
 EVERY_INPUT = 0xFF
 NO_INPUT = 0xFE
+
+GRAINS = {0: "tick", 1: "frame"}
 
 RTP_VERSION = 2
 RTP_HEAD_LENGTH = 12
@@ -32,11 +41,14 @@ class Fault(Exception):
 
 
 class Fields:
-    """The bytes of a body, taken field by field; `at` is the offset of those that are left."""
+    """The bytes of a body of a format, taken field by field; `at` is the offset of those that are
+    left.
+    """
 
-    def __init__(self, body: bytes, at: int = 0) -> None:
+    def __init__(self, body: bytes, at: int = 0, text_format: int = 1) -> None:
         self.left = body
         self.at = at
+        self.format = text_format
 
     def take(self, length: int) -> bytes:
         if length > len(self.left):
@@ -50,6 +62,11 @@ class Fields:
 
     def rest(self) -> bytes:
         return self.take(len(self.left))
+
+    def moment(self) -> Values:
+        """A tick, and the frame of it from which something counts, where the format tells it."""
+        tick = {"tick": self.number(8)}
+        return tick if self.format == 1 else {**tick, "frame": self.number(2)}
 
 
 @dataclass(frozen=True)
@@ -94,9 +111,10 @@ class Record:
 
 @dataclass
 class View:
-    """The device told last, and the faults so far."""
+    """The device told last, the format of the text that is read, and the faults so far."""
 
     device: Device = field(default_factory=Device)
+    format: int = 1
     faults: list[Record] = field(default_factory=list)
 
     def fault(self, at: int, kind: str, found: str) -> Record:
@@ -275,7 +293,7 @@ def request(fields: Fields, device: Device) -> Values:
 
 
 def dated(fields: Fields) -> Values:
-    return {"id": fields.number(8), **when(fields, fields.number()), "tick": fields.number(8)}
+    return {"id": fields.number(8), **when(fields, fields.number()), **fields.moment()}
 
 
 def active(fields: Fields, device: Device) -> Values:
@@ -309,8 +327,8 @@ def row_fault(fields: Fields, device: Device) -> Values:
 
 # Each code with the word of its reply and what follows it.
 REPLIES: dict[int, tuple[str, Callable[[Fields, Device], Values]]] = {
-    0x00: ("activated", lambda f, d: {"id": f.number(8), "tick": f.number(8)}),
-    0x01: ("scheduled", lambda f, d: {"id": f.number(8), "tick": f.number(8)}),
+    0x00: ("activated", lambda f, d: {"id": f.number(8), **f.moment()}),
+    0x01: ("scheduled", lambda f, d: {"id": f.number(8), **f.moment()}),
     0x02: ("deleted", lambda f, d: {"id": f.number(8)}),
     0x03: ("active", active),
     0x04: ("pending", pending),
@@ -358,6 +376,10 @@ def request_record(fields: Fields, view: View) -> Values:
     return {"client": fields.number(), **request(fields, view.device)}
 
 
+def grain_record(fields: Fields, view: View) -> Values:
+    return {"grain": chosen(GRAINS, fields.number(), "grain")}
+
+
 def work_record(fields: Fields, view: View) -> Values:
     return {"claims": fields.number(4)}
 
@@ -382,7 +404,7 @@ def claim_record(fields: Fields, view: View) -> Values:
 
 def call_record(fields: Fields, view: View) -> Values:
     values = {"claims": fields.number(8), "client": fields.number()}
-    values.update({"id": fields.number(8), "tick": fields.number(8)})
+    values.update({"id": fields.number(8), **fields.moment()})
     return {**values, **request(fields, view.device)}
 
 
@@ -400,6 +422,7 @@ RECORDS: dict[str, dict[int, tuple[str, Reader]]] = {
     "capture": {
         ord("D"): ("device", device_record),
         ord("J"): ("device", json_device),
+        GRAIN_TAG: ("grain", grain_record),
         ord("P"): ("packet", packet_record),
         ord("Q"): ("stream", stream_record),
         ord("A"): ("request", request_record),
@@ -413,12 +436,12 @@ RECORDS: dict[str, dict[int, tuple[str, Reader]]] = {
         END_TAG: ("end", end_record),
     },
 }
-KINDS = [*MAGICS.values(), *dict.fromkeys(k for r in RECORDS.values() for k, _ in r.values())]
+KINDS = [*RECORDS, *dict.fromkeys(k for r in RECORDS.values() for k, _ in r.values())]
 
 
 def read_record(text_kind: str, tag: int, body: bytes, at: int, view: View) -> Record:
-    fields = Fields(body, at + RECORD_HEAD_LENGTH)
-    if tag not in RECORDS[text_kind]:
+    fields = Fields(body, at + RECORD_HEAD_LENGTH, view.format)
+    if tag not in RECORDS[text_kind] or (tag == GRAIN_TAG and view.format == 1):
         return view.fault(at, "unknown", f"{text_kind} record with tag {tag:02x}")
     kind, reader = RECORDS[text_kind][tag]
     try:
@@ -459,10 +482,11 @@ def read(data: bytes, view: View) -> Iterator[Record]:
                 kind, found = "cut", f"magic of {MAGIC_LENGTH} bytes, {len(magic)} there"
             yield view.fault(at, kind, found)
             return
-        if MAGICS[magic] == "capture":
+        text_kind, view.format = MAGICS[magic]
+        if text_kind == "capture":
             view.device = Device()  # A capture tells its own device.
-        yield Record(at, MAGICS[magic], {})
-        at = yield from read_records(data, at + MAGIC_LENGTH, MAGICS[magic], view)
+        yield Record(at, text_kind, {"format": view.format})
+        at = yield from read_records(data, at + MAGIC_LENGTH, text_kind, view)
 
 
 def samples(values: Values) -> Optional[list[list[int]]]:

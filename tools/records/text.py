@@ -16,6 +16,8 @@ from typing import Optional
 from records import http
 from records.reading import (
     EVERY_INPUT,
+    GRAINS,
+    MAGICS,
     NO_INPUT,
     OTHER_ASKS,
     RTP_VERSION,
@@ -28,7 +30,8 @@ from records.reading import (
 )
 from records.words import device_words, input_words, output_words, words_of
 
-CAPTURE_MAGIC = b"CHMCAP1\n"
+# The first bytes of a capture, by its format.
+CAPTURE_MAGICS = {form: magic for magic, (kind, form) in MAGICS.items() if kind == "capture"}
 TONE_PART_OF_FULL_SCALE = 0.5
 MOST_PAYLOAD_TYPE = 127
 MARKER_BIT = 128
@@ -135,6 +138,7 @@ class TextPort:
 class Writer:
     """A text that is turned into a capture, line by line."""
 
+    format: int = 1
     device: Optional[Values] = None
     inputs: list[TextPort] = field(default_factory=list)
     outputs: list[TextPort] = field(default_factory=list)
@@ -297,6 +301,14 @@ class Writer:
                 data += sample.to_bytes(port.bits // 8, "big", signed=True)
         return data
 
+    def take_grain(self, text: str) -> None:
+        grains = {words: bytes([number]) for number, words in GRAINS.items()}
+        if self.format == 1:
+            raise TextFault("a grain stands in a capture of format 2")
+        if text not in grains:
+            raise TextFault(f"{text!r} is no grain")
+        self.records += record_bytes("G", grains[text])
+
     def take_work(self, text: str) -> None:
         found = matched(r"(\d+) (claims?|ticks?)", text.strip())
         if not found:
@@ -368,6 +380,14 @@ class Writer:
 
     # -- lines
 
+    def begin(self, text: str) -> None:
+        """The first line, which tells the format; else it is 1."""
+        formats = {"": 1, **{f"format {number}": number for number in CAPTURE_MAGICS}}
+        if text not in formats:
+            raise TextFault(f"{text!r} is no format of a capture")
+        self.format = formats[text]
+        self.is_begun = True
+
     def take_line(self, line: str) -> None:
         if self.is_ended:
             raise TextFault("a line behind the end")
@@ -378,7 +398,7 @@ class Writer:
         found = matched(r"(?:\s*\d+ )?\s*(\w+)(?: (.*))?", line)
         word, text = (found.group(1), found.group(2) or "") if found else ("", "")
         if word == "capture" and not self.is_begun:
-            self.is_begun = True
+            self.begin(text.strip())
             return
         if not self.is_begun:
             raise TextFault("a text begins with the line `capture`")
@@ -392,6 +412,7 @@ class Writer:
             self.take_device(text.strip())
             return
         takers: dict[str, Callable[[str], None]] = {
+            "grain": self.take_grain,
             "packet": self.take_packet,
             "work": self.take_work,
             "request": self.take_request,
@@ -447,7 +468,7 @@ def capture_of(text: str) -> bytes:
         writer.write_device()
     except TextFault as fault:
         raise TextFault(f"the device: {fault}") from None
-    return CAPTURE_MAGIC + writer.records + record_bytes("E", b"")
+    return CAPTURE_MAGICS[writer.format] + writer.records + record_bytes("E", b"")
 
 
 # ---- from bytes to text
@@ -474,8 +495,6 @@ def all_whole(values: Values) -> bool:
 
 
 def record_lines(record: Record, data: bytes) -> list[str]:
-    if record.kind == "capture":
-        return ["capture"]
     if record.kind == "device" and "json" not in record.values:
         lines = device_words(record.values).splitlines()[:1]
         lines += [f"    {input_words(one)}" for one in record.values["inputs"]]

@@ -6,7 +6,7 @@ from collections.abc import Iterator
 from typing import Optional
 
 from records.reading import Device, Record, samples
-from records.words import request_words
+from records.words import moment_words, request_words
 
 TICKS_A_LINE = 60
 RULER_STEP = 10
@@ -80,7 +80,8 @@ class Timeline:
             for call in self.calls[tick]:
                 if tick in ticks:
                     number = f" {call.values['id']}" if call.values["id"] else ""
-                    yield f"call{number} from tick {tick}: {request_words(call.values)}"
+                    moment = moment_words(call.values)
+                    yield f"call{number} from {moment}: {request_words(call.values)}"
         yield LEGEND
 
 

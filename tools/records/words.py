@@ -92,8 +92,13 @@ def request_words(values: Values) -> str:
     return f"deletion of id {values['deletes']}" if values["ask"] == "deletion" else values["ask"]
 
 
+def moment_words(values: Values) -> str:
+    """The tick, and the frame of it where the format tells one."""
+    return f"tick {values['tick']}" + (f", frame {values['frame']}" if "frame" in values else "")
+
+
 def dated_words(values: Values) -> str:
-    return f"id {values['id']}, {when_words(values)}, tick {values['tick']}"
+    return f"id {values['id']}, {when_words(values)}, {moment_words(values)}"
 
 
 def active_words(values: Values) -> str:
@@ -111,8 +116,8 @@ def pending_words(values: Values) -> str:
 
 # The replies whose words are a pattern over their values.
 REPLY_PATTERNS: dict[str, str] = {
-    "activated": "activated, id {id}, tick {tick}",
-    "scheduled": "scheduled, id {id}, tick {tick}",
+    "activated": "activated, id {id}, {moment}",
+    "scheduled": "scheduled, id {id}, {moment}",
     "deleted": "deleted, id {id}",
     "no output named": "refused, no output named",
     "unknown output": "refused, output {output} isn't there",
@@ -150,7 +155,8 @@ def reply_words(values: Values) -> str:
         return active_words(values)
     if values["reply"] == "pending":
         return pending_words(values)
-    return REPLY_PATTERNS[values["reply"]].format_map(values)
+    moment = moment_words(values) if "tick" in values else ""
+    return REPLY_PATTERNS[values["reply"]].format(moment=moment, **values)
 
 
 def packet_record_words(values: Values, samples: int) -> str:
@@ -170,7 +176,7 @@ def claim_words(values: Values, samples: int) -> str:
 
 def call_words(values: Values) -> str:
     text = f"at {counted(values['claims'], 'claim')}, client {values['client']}"
-    return f"{text}, id {values['id']}, tick {values['tick']}, {request_words(values)}"
+    return f"{text}, id {values['id']}, {moment_words(values)}, {request_words(values)}"
 
 
 def reply_record_words(values: Values) -> str:
@@ -181,6 +187,10 @@ def reply_record_words(values: Values) -> str:
 def words_of(record: Record, samples: int = DEFAULT_SAMPLES) -> str:
     """What a record says, after its kind."""
     values = record.values
+    if record.kind in ("capture", "result"):
+        return "" if values["format"] == 1 else f"format {values['format']}"
+    if record.kind == "grain":
+        return values["grain"]
     if record.kind == "device":
         return device_words(values)
     if record.kind == "packet":

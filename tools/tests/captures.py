@@ -28,9 +28,9 @@ PATHS = [
 
 
 class Captures:
-    """Captures, made at random."""
+    """Captures, made at random, of these formats."""
 
-    def __init__(self, seed: int) -> None:
+    def __init__(self, seed: int, formats: tuple[int, ...] = (1, 2, 2)) -> None:
         self.random = random.Random(seed)
         self.frames = self.random.choice([1, 2, 3, 48])
         wrap = (1 << 32) // self.frames
@@ -42,6 +42,9 @@ class Captures:
         ]
         self.bits = [self.random.choice([16, 24]) for _ in self.inputs]
         self.outputs = [self.random.randint(1, 4) for _ in range(self.random.randint(1, 3))]
+        # format 1 has no grain, and in format 2 it is that of ticks where nothing tells it
+        self.format = self.random.choice(formats)
+        self.grain = self.random.choice([None, 0, 1, 1]) if self.format == 2 else None
 
     def cell(self) -> bytes:
         """A cell, of which few name what is not there."""
@@ -171,10 +174,10 @@ class Captures:
         op = self.random.choice([0, 0, 1, 2])
         if op == 0:
             return b"\0"
-        ticks = self.random.randint(0, 6) + (self.base if op == 1 else 0)
-        nanos = max(
-            0, ticks * self.frames * model.BILLION // 48000 + self.random.choice([-1, 0, 0, 1])
-        )
+        frames = (self.random.randint(0, 6) + (self.base if op == 1 else 0)) * self.frames
+        if self.random.random() < 0.5:
+            frames += self.random.randrange(self.frames)
+        nanos = max(0, frames * model.BILLION // 48000 + self.random.choice([-1, 0, 0, 1]))
         if self.random.random() < 0.05:
             nanos = model.SECONDS * model.BILLION - self.random.randint(1, 50_000)
         seconds, nanos = divmod(nanos, model.BILLION)
@@ -210,21 +213,30 @@ class Captures:
         return records
 
     def whole(self, records: list[bytes]) -> bytes:
-        return b"CHMCAP1\n" + self.device() + b"".join(records) + model.record(b"E", b"")
+        """The capture of these records after the device and the grain."""
+        return self.begun([*self.grain_record(), *records])
+
+    def begun(self, records: list[bytes]) -> bytes:
+        """The magic and the device with all records after them."""
+        magic = b"CHMCAP%d\n" % self.format
+        return magic + self.device() + b"".join(records) + model.record(b"E", b"")
+
+    def grain_record(self) -> list[bytes]:
+        return [] if self.grain is None else [model.record(b"G", bytes([self.grain]))]
 
     def damaged(self) -> bytes:
         """A capture with a record twice, two records the other way round, or a byte changed, left
         out or put in.
         """
-        records = self.records()
+        records = [*self.grain_record(), *self.records()]
         if records and self.random.random() < 0.3:
             records.insert(self.random.randint(0, len(records)), self.random.choice(records))
-            return self.whole(records)
+            return self.begun(records)
         if records and self.random.random() < 0.3:
             one, other = self.random.randrange(len(records)), self.random.randrange(len(records))
             records[one], records[other] = records[other], records[one]
-            return self.whole(records)
-        data = self.whole(records)
+            return self.begun(records)
+        data = self.begun(records)
         place = self.random.randrange(len(data))
         byte = bytes(
             [self.random.choice([0, 1, 2, 254, 255, data[place] ^ 1, self.random.randrange(256)])]

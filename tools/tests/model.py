@@ -22,6 +22,9 @@ __all__ = ["BILLION", "SECONDS", "Doubtful", "Refused", "record", "result"]
 STAMPS = 1 << 32  # timestamps are told up to multiples of it
 CLIENTS = 16
 TICKS = 4096  # the most of a capture
+FORMATS = {b"CHMCAP1\n": 1, b"CHMCAP2\n": 2}  # of a capture, by its first bytes
+RESULTS = {1: b"CHMRES1\n", 2: b"CHMRES2\n"}
+TAGS = {1: b"DJPQATE", 2: b"DJGPQATE"}
 
 
 class Refused(Exception):
@@ -140,19 +143,20 @@ class Player:
 
     def claim(self) -> None:
         place, output = divmod(len(self.claims), len(self.device.outputs))
-        tick = self.device.base + place
-        port, row = self.device.outputs[output], self.book.row(output, tick)
-        named = {cell[0] for cell in row if cell is not None}
+        tick, frames = self.device.base + place, self.device.frames
+        port = self.device.outputs[output]
+        rows = [self.book.row(output, tick * frames + frame) for frame in range(frames)]
+        named = {cell[0] for row in rows for cell in row if cell is not None}
         found = bytes(
             source in named and one.has_block(place) for source, one in enumerate(self.arrivals)
         )
-        timestamp = tick * self.device.frames % STAMPS
+        timestamp = tick * frames % STAMPS
         packet = struct.pack(
             ">BBHII", 0x80, port.payload_type, tick % (1 << 16), timestamp, port.ssrc
         )
-        for frame in range(place * self.device.frames, (place + 1) * self.device.frames):
+        for frame, row in enumerate(rows):
             for cell in row:
-                sample = self.sample(cell, frame) >> (8 * (3 - port.width))
+                sample = self.sample(cell, place * frames + frame) >> (8 * (3 - port.width))
                 packet += sample.to_bytes(port.width, "big", signed=True)
         self.claims.append(record(b"C", wide(len(self.claims)) + found + packet))
 
@@ -201,7 +205,8 @@ class Player:
             parts[claims].append(text)
         for number, text in enumerate(self.claims):
             parts[number].append(text)
-        return b"CHMRES1\n" + b"".join(b"".join(part) for part in parts) + record(b"E", b"")
+        text = b"".join(b"".join(part) for part in parts)
+        return RESULTS[self.device.format] + text + record(b"E", b"")
 
 
 # a number of claims, a client's request, or a piece of its stream
@@ -221,8 +226,9 @@ class Records:
 
     def __init__(self, data: bytes) -> None:
         self.data = data
-        if data[:8] != b"CHMCAP1\n":
+        if data[:8] not in FORMATS:
             raise Refused(0, "magic")
+        self.format = FORMATS[data[:8]]
         self.at = self.behind = 8
 
     def next(self) -> tuple[bytes, bytes]:
@@ -244,8 +250,15 @@ def read_first(records: Records) -> Device:
     tag, body = records.next()
     readings = {b"D": read_device, b"J": json_device}
     if tag not in readings:
-        raise Refused(records.at, "order" if tag in b"PQATE" else "tag")
-    return records.read("device", readings[tag], body)
+        raise Refused(records.at, "order" if tag in TAGS[records.format] else "tag")
+    device = records.read("device", readings[tag], body)
+    device.format = records.format
+    return device
+
+
+def read_grain(body: bytes) -> bool:
+    require(body in (b"\0", b"\1"))
+    return body == b"\1"
 
 
 def read_item(device: Device, tag: bytes, body: bytes) -> Union[Event, tuple[int, bytes]]:
@@ -264,11 +277,14 @@ def read_capture(data: bytes) -> Capture:
     records = Records(data)
     capture = Capture(read_first(records), [], [], 0)
     tag, body = records.next()
+    if records.format == 2 and tag == b"G":
+        capture.device.by_frames = records.read("body", read_grain, body)
+        tag, body = records.next()
     while tag != b"E":
-        if tag in b"DJ":
-            raise Refused(records.at, "order")
-        if tag not in b"PQAT":
+        if tag not in TAGS[records.format]:
             raise Refused(records.at, "tag")
+        if tag not in b"PQAT":
+            raise Refused(records.at, "order")
         item = records.read(
             "body", lambda text, tag=tag: read_item(capture.device, tag, text), body
         )

@@ -284,7 +284,7 @@ def activation_json(device: Device, call: Optional[Call]) -> dict[str, Any]:
     if call is None:
         return {"activation_time": None, "mode": None, "requested_time": None}
     requested = time_text(call.request.nanos) if call.request.op > 0 else None
-    start = time_text(device.start(call.tick))
+    start = time_text(device.start(call.position))
     return {"activation_time": start, "mode": MODES[call.request.op], "requested_time": requested}
 
 

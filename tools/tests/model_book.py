@@ -96,18 +96,28 @@ class Device:
     hold: int
     inputs: list[Port]
     outputs: list[Port]
+    format: int = 1  # of the capture that tells the device
+    by_frames: bool = False  # the grain: changes at a time count from a frame, else from a tick
 
-    def start(self, tick: int) -> int:
-        """When a tick starts, in nanoseconds, rounded down."""
-        return tick * self.frames * BILLION // self.hz
+    def start(self, position: int) -> int:
+        """When a frame, counted from TAI 0, starts, in nanoseconds, rounded down."""
+        return position * BILLION // self.hz
 
     def up(self, nanos: int) -> int:
-        """The first tick that starts at a time or later."""
-        return -(-nanos * self.hz // (self.frames * BILLION))
+        """The first frame that starts at a time or later; without the grain of frames the first one
+        of a tick.
+        """
+        step = 1 if self.by_frames else self.frames
+        return -(-nanos * self.hz // (step * BILLION)) * step
 
     def first(self, claims: int) -> int:
-        """The first tick of which nothing is claimed."""
-        return self.base - (-claims // len(self.outputs))
+        """The first frame of the first tick of which nothing is claimed."""
+        return (self.base - (-claims // len(self.outputs))) * self.frames
+
+    def moment(self, position: int) -> bytes:
+        """The tick of a frame, and in format 2 its place in the tick."""
+        tick, offset = divmod(position, self.frames)
+        return wide(tick) + (offset.to_bytes(2, "big") if self.format == 2 else b"")
 
     def fault(self, output: int, row: Row) -> Optional[bytes]:
         """Why a row cannot be an output's: a check, 1 to 5, and its lowest failing channel."""
@@ -303,41 +313,40 @@ class Call:
     """An accepted activation."""
 
     id: int
-    tick: int
+    position: int  # the frame from which it counts, from TAI 0
     request: Request
     deleted: bool = False
 
-    @property
-    def shown(self) -> bytes:
-        return wide(self.id) + self.request.when + wide(self.tick)
-
 
 class Book:
-    """The rows of a device by tick, and the activations that were accepted."""
+    """The rows of a device by frame, counted from TAI 0, and the activations that were accepted."""
 
     def __init__(self, device: Device) -> None:
         self.device = device
-        self.rows = [[(device.base, output.row)] for output in device.outputs]
+        self.rows = [[(device.first(0), output.row)] for output in device.outputs]
         self.accepted: list[Call] = []
         self.calls = 0
 
-    def row(self, output: int, tick: int) -> Row:
-        return [row for start, row in self.rows[output] if start <= tick][-1]
+    def row(self, output: int, position: int) -> Row:
+        return [row for start, row in self.rows[output] if start <= position][-1]
+
+    def shown(self, call: Call) -> bytes:
+        return wide(call.id) + call.request.when + self.device.moment(call.position)
 
     def pending(self, first: int) -> list[Call]:
         return [
             call
             for call in self.accepted
-            if call.request.op > 0 and call.tick > first and not call.deleted
+            if call.request.op > 0 and call.position > first and not call.deleted
         ]
 
     def land(self, first: int, request: Request) -> Optional[int]:
-        """The tick from which an activation counts; None past the end of time."""
+        """The frame from which an activation counts; None past the end of time."""
         start = self.device.start(first) if request.op == 2 else 0
         if start + request.nanos >= SECONDS * BILLION:
             return None
-        tick = first if request.op == 0 else max(first, self.device.up(start + request.nanos))
-        return tick if self.device.start(tick) < SECONDS * BILLION else None
+        at = first if request.op == 0 else max(first, self.device.up(start + request.nanos))
+        return at if self.device.start(at) < SECONDS * BILLION else None
 
     def refusal(self, first: int, request: Request, rows: dict[int, Row]) -> Optional[bytes]:
         """The first reason why an activation is not accepted, as it stands in a reply."""
@@ -367,7 +376,7 @@ class Book:
         return None
 
     def activate(self, first: int, request: Request) -> tuple[bytes, Optional[bytes]]:
-        """The reply, and what an accepted call's record tells: id and tick."""
+        """The reply, and what an accepted call's record tells: id and moment."""
         rows: dict[int, Row] = {}
         refused = self.refusal(first, request, rows)
         if refused is not None:
@@ -375,31 +384,30 @@ class Book:
         call = Call(len(self.accepted) + 1, self.land(first, request), request)
         self.accepted.append(call)
         for output, row in rows.items():
-            self.rows[output].append((call.tick, row))
-        return (b"\0" if request.op == 0 else b"\1") + wide(call.id, call.tick), wide(
-            call.id, call.tick
-        )
+            self.rows[output].append((call.position, row))
+        told = wide(call.id) + self.device.moment(call.position)
+        return (b"\0" if request.op == 0 else b"\1") + told, told
 
     def delete(self, first: int, request: Request) -> tuple[bytes, Optional[bytes]]:
         for call in self.pending(first):
             if call.id == request.id:
                 for output in call.request.changes:
-                    self.rows[output].append((call.tick, self.row(output, first)))
+                    self.rows[output].append((call.position, self.row(output, first)))
                 call.deleted = True
-                return b"\2" + wide(call.id), wide(0, call.tick)
+                return b"\2" + wide(call.id), wide(0) + self.device.moment(call.position)
         return b"\x16" + wide(request.id), None
 
     def last(self, first: int) -> Optional[Call]:
         """The activation that counted last."""
-        passed = [call for call in self.accepted if call.tick <= first and not call.deleted]
-        return max(passed, key=lambda call: (call.tick, call.id), default=None)
+        passed = [call for call in self.accepted if call.position <= first and not call.deleted]
+        return max(passed, key=lambda call: (call.position, call.id), default=None)
 
     def active(self, first: int) -> bytes:
         last = self.last(first)
         rows = [self.row(output, first) for output in range(len(self.device.outputs))]
         return (
             b"\3"
-            + (b"\1" + last.shown if last else b"\0")
+            + (b"\1" + self.shown(last) if last else b"\0")
             + b"".join(cell_bytes(cell) for row in rows for cell in row)
         )
 
@@ -412,5 +420,5 @@ class Book:
             return self.active(first), None
         items = self.pending(first)
         return bytes([4, len(items)]) + b"".join(
-            call.shown + call.request.action for call in items
+            self.shown(call) + call.request.action for call in items
         ), None

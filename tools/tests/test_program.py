@@ -25,7 +25,7 @@ PROGRAM = CRATE / "out" / "chanmap"
 CAPTURE = (CRATE / "stdin").read_bytes()
 RESULT = (CRATE / "stdout").read_bytes()
 MOST = 1 << 26
-USAGE = b"usage: chanmap serial\n"
+USAGE = b"usage: chanmap serial | sdp | from-sdp\n"
 
 
 def run(words: list[str | bytes], data: bytes = b"", **options) -> tuple[int, bytes, bytes]:

@@ -173,6 +173,76 @@ class WorkedBytes(unittest.TestCase):
         self.assertTrue(lines[1].endswith(", 8 payload bytes: 00 00 00 .."))
 
 
+# A change at frame 1 of tick 1, in a capture of format 2 with the grain of frames.
+FRAME_CAPTURE = bytes.fromhex(
+    f"""43484d434150320a
+    44 00000034 {DEVICE}
+    47 00000001 01
+    50 00000015 00 8060 0000 00000002 00000063 1111 2222 3333 4444
+    41 00000014 00 01 0000000000000000 0000f424 01 00 01 000000
+    54 00000004 00000004
+    {END}"""
+)
+FRAME_RESULT = bytes.fromhex(
+    f"""43484d524553320a
+    48 0000002e 0000000000000000 00 0000000000000001 0000000000000001 0001
+       01 0000000000000000 0000f424 01 00 01 000000
+    52 00000025 00 0000000000000000 0000000000000000 01 01 0000000000000001 0000000000000001 0001
+    43 0000001d 0000000000000000 00 8060 0000 00000000 00000001 0000000000000000
+    43 00000021 0000000000000001 00 8061 0000 00000000 00000002 000000000000000000000000
+    43 0000001d 0000000000000002 01 8060 0001 00000002 00000001 0000 0000 3333 0000
+    43 00000021 0000000000000003 00 8061 0001 00000002 00000002 000000000000000000000000
+    {END}"""
+)
+
+
+class FormatTwo(unittest.TestCase):
+    def test_worked_bytes(self) -> None:
+        self.assertEqual((len(FRAME_CAPTURE), len(FRAME_RESULT)), (136, 250))
+        lines, faults = lines_of(FRAME_CAPTURE + FRAME_RESULT)
+        self.assertEqual(faults, [])
+        for line in (
+            "       0  capture  format 2",
+            "      65  grain    frame",
+            "     136  result   format 2",
+            "     144  call     at 0 claims, client 0, id 1, tick 1, frame 1, "
+            "activation at 0:62500: x 0 <- a 0",
+            "     195  reply    client 0, at 0 calls and 0 claims, scheduled, id 1, tick 1, frame 1",
+            "     309  claim    2, output x, tick 1, found a, type 96, sequence 1, timestamp 2, "
+            "SSRC 1, 8 payload bytes: 0000 0000 | 3333 0000",
+        ):
+            self.assertIn(line, lines)
+
+    def test_replies_that_tell_a_frame(self) -> None:
+        one, two, frame = f"{1:016x}", f"{2:016x}", f"{2:016x} 00ef"
+        for answer, words in {
+            f"00 {one} {frame}": "activated, id 1, tick 2, frame 239",
+            f"02 {one}": "deleted, id 1",
+            f"03 01 {one} 00 {frame} ff00 ff00 ff00 ff00": "active, id 1, at once, tick 2, "
+            "frame 239: x 0 <- unrouted, x 1 <- unrouted, y 0 <- unrouted, y 1 <- unrouted",
+            f"04 02 {one} 01 {two} 00000003 {frame} 00 {two} 02 {one} 00000000 {one} 0000 00": ""
+            "pending, id 1, at 2:3, tick 2, frame 239: no output; id 2, after 1:0, tick 1, frame 0: "
+            "no output",
+        }.items():
+            with self.subTest(answer=answer):
+                reply = record("R", f"02 {0:016x} {1:016x} 01 {answer}")
+                data = FRAME_CAPTURE + FRAME_RESULT[:8] + bytes.fromhex(reply + END)
+                lines, faults = lines_of(data)
+                self.assertEqual(faults, [])
+                self.assertTrue(lines[-2].endswith(f", at 0 calls and 1 claim, {words}"), lines[-2])
+
+    def test_faults(self) -> None:
+        two = FRAME_CAPTURE[:8].hex()
+        for data, words in (
+            (two + "47 00000001 02" + END, "unknown at 8: grain 02 (record 47)"),
+            (two + "47 00000000" + END, "wrong length at 8: field of 1 at 13, 0 there (record 47)"),
+            (CAPTURE_MAGIC + "47 00000001 01" + END, "unknown at 8: capture record with tag 47"),
+            ("43484d524553320a 47 00000001 01" + END, "unknown at 8: result record with tag 47"),
+        ):
+            with self.subTest(words=words):
+                self.assertEqual(faults_of(data), [words])
+
+
 class Records(unittest.TestCase):
     def test_whole_device(self) -> None:
         body = """0000ac44 00f0 0000000000000007 40 02 01

@@ -73,7 +73,7 @@ class Texts(unittest.TestCase):
             with self.subTest(path=path.name):
                 data = capture_of(path.read_text("utf-8"))
                 self.assertEqual(capture_of("\n".join(text_of(data))), data)
-                self.assertTrue(model.result(data).startswith(b"CHMRES1\n"))  # not refused
+                self.assertTrue(model.result(data).startswith(b"CHMRES"))  # not refused
 
     def test_the_text_of_the_page(self) -> None:
         page = (TOOLS / "README.md").read_text("utf-8")
@@ -157,6 +157,26 @@ end
         }.items():
             with self.subTest(line=line):
                 self.assertEqual(records_of(capture_of(DEVICE + line)), body)
+
+    def test_formats(self) -> None:
+        behind = DEVICE.removeprefix("capture")
+        plain = capture_of(DEVICE)
+        self.assertEqual(capture_of("capture format 1" + behind), plain)
+        two = b"CHMCAP2\n" + plain[8:]
+        self.assertEqual(capture_of("capture  format 2" + behind), two)
+        for word, number in (("tick", 0), ("frame", 1)):
+            data = capture_of(f"capture format 2{behind}grain {word}\nwork 2 claims")
+            grain = bytes([0x47, 0, 0, 0, 1, number])
+            self.assertEqual(data, two[:-5] + grain + bytes.fromhex("540000000400000002") + two[-5:])
+            self.assertEqual(capture_of("\n".join(text_of(data))), data)
+        for text, words in {
+            "capture format 3": "line 1: 'format 3' is no format of a capture",
+            f"{DEVICE}grain frame": "line 6: a grain stands in a capture of format 2",
+            f"capture format 2{behind}grain 1": "line 6: '1' is no grain",
+        }.items():
+            with self.subTest(words=words), self.assertRaises(TextFault) as caught:
+                capture_of(text)
+            self.assertEqual(str(caught.exception), words)
 
     def test_lines_that_are_none(self) -> None:
         for line, words in {

@@ -105,14 +105,14 @@ class Yardstick(unittest.TestCase):
     def test_captures_at_random(self) -> None:
         for seed in range(400):
             with self.subTest(seed=seed):
-                made = Captures(seed)
+                made = Captures(seed, (1,))
                 self.assertTrue(self.check(made.whole(made.records())))
 
     def test_damaged_captures(self) -> None:
         read = 0
         for seed in range(2000):
             with self.subTest(seed=seed):
-                read += self.check(Captures(seed).damaged())
+                read += self.check(Captures(seed, (1,)).damaged())
         self.assertTrue(0 < read < 2000)
 
 
