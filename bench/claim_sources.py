@@ -4,27 +4,19 @@ from __future__ import annotations
 
 from measurement import DEVICE, SETUPS, Measurement, Module
 
-TABLES = Module(
+BASES = Module(
     "tables",
-    """//! Claim tables with a given number of entries.
+    """//! Claim tables that begin with the base rows of a setup.
 
-ghost use Rattle.std.specs.Prelude.{◌≡◌, ◌<◌, ◌≤◌, ◌∷◌, [], IfOk, IsTrue, OnOk, length};
-ghost use Rattle.io_caps.specs.declared.limits.TheConstants.{MOST_OUTPUTS};
+ghost use Rattle.std.specs.Prelude.{◌≡◌, ◌<◌, ◌≤◌, IfOk, OnOk, length};
+ghost use Rattle.io_caps.specs.declared.limits.TheConstants.{LAP_TICKS, MOST_OUTPUTS};
 ghost use Rattle.map_entry.specs.Entry.{IsEntryOk};
-ghost use Rattle.map_entry.specs.Row.{IsRowOf};
-ghost use Rattle.map_entry.specs.Tick.{first_tick};
-ghost use Rattle.claim_rule.specs.declared.words.TheConstants.{TICKS_LIMIT};
 ghost use Rattle.claim_word.specs.Faces.{IsPublisherOf};
 ghost use Rattle.claim_word.specs.Starts.{IsBase};
-ghost use Rattle.claim_word.specs.States.{HasSeen};
 
-use crate::setups::row;
-use anyhow::{Result, anyhow};
-use claim_rule::TICKS_LIMIT;
-use claim_word::{ClaimTable, Publisher, State};
-use io_caps::limits::PLACES;
-use io_caps::{Device, ListOf, NoMemory, TryCopy};
-use map_entry::{CLAIMS_LIMIT, Cell, Entries, Entry, Row, Setup, check_row, first_tick};
+use claim_word::{ClaimTable, Publisher};
+use io_caps::{NoMemory, TryCopy};
+use map_entry::{Entries, Entry, Setup};
 use std::alloc::Global;
 
 /// The base row of an output, as an entry from the first tick on.
@@ -41,7 +33,8 @@ fn base_entry(setup: &Setup, output: u8) -> Result<Entry, NoMemory>
     Ok(Entry::new(output, setup.device.base(), 0, row, 0))
 }
 
-fn base_entries(alloc: Global, setup: &Setup) -> Result<Entries, NoMemory>
+/// The base rows of all outputs.
+pub fn base_entries(alloc: Global, setup: &Setup) -> Result<Entries, NoMemory>
     ensures base { IfOk result (IsBase setup.now 0) }
     ensures few { OnOk result (length setup.now.device.outputs ≤ MOST_OUTPUTS) }
 {
@@ -53,13 +46,110 @@ fn base_entries(alloc: Global, setup: &Setup) -> Result<Entries, NoMemory>
     Ok(made)
 }
 
-/// A table of 256 ticks for one worker.
-pub fn start(alloc: Global, setup: &Setup) -> Result<(ClaimTable, Publisher), NoMemory>
+/// A table of a given number of ticks for one worker.
+pub fn start(
+    alloc: Global,
+    setup: &Setup,
+    ticks: u64,
+) -> Result<(ClaimTable, Publisher), NoMemory>
+    requires { ticks ≤ LAP_TICKS }
     ensures setup { IfOk result (λ t. t.0.plan.setup ≡ setup.now) }
     ensures of { IfOk result (λ t. IsPublisherOf t.0 t.1) }
 {
-    ClaimTable::start(alloc, setup, &base_entries(alloc, setup)?, 0, 256, 1)
+    ClaimTable::start(alloc, setup, &base_entries(alloc, setup)?, 0, ticks, 1)
 }
+""",
+    {
+        "base_entry/Answers.antt": """use Rattle.std.proofs.Common.{◌≡◌, ℕ, ◌<◌, List, length, Some, refl, sym, ap, ◌∙◌, subst, arith}
+use Rattle.std.specs.Prelude.{slice_get}
+use Rattle.std.proofs.lemmas.Option.{slice_get_read}
+use Rattle.map_entry.specs.declared.cell.Cell.{Cell}
+use Rattle.map_entry.specs.Entry.{entry_of, IsEntryOk}
+use Rattle.map_entry.specs.Setup.{SetupParts, IsSetup}
+use Rattle.map_entry.proofs.Rows.{base_row, rows_long}
+use Rattle.measure.proofs.tables.base_entry.Goals as goal
+
+pub bounds-rows-output : goal.bounds-rows-output
+bounds-rows-output c =
+    let rows = c.as_slice-rows.ensures ∙ ap (λ (s : SetupParts). s.rows) c.setup.view_is in
+    let valid = subst IsSetup c.setup.view_is c.setup.invariant in
+    omega (arith, c.requires, rows_long c.args.setup.now valid, ap length rows)
+
+pub returns-clause-ok : goal.returns-clause-ok
+returns-clause-ok c =
+    let s : SetupParts = c.args.setup.now in let o : ℕ = c.args.output in
+    let rows = c.as_slice-rows.ensures ∙ ap (λ (x : SetupParts). x.rows) c.setup.view_is in
+    let valid = subst IsSetup c.setup.view_is c.setup.invariant in
+    let read = slice_get_read s.rows _ o _ refl (omega (arith, c.requires, rows_long s valid)) (rw rows at c.index-rows-output.is) in
+    subst (IsEntryOk s.device) (sym (c.new.ensures ∙ ap (λ (r : List Cell). entry_of o c.base.result 0 r 0) c.in_ok-row.ensures))
+    (record { row = base_row s o c.index-rows-output.result valid read; offset = valid.device.bounds.rate.1 })
+""",
+        "base_entries/Invariants.antt": """use Rattle.claim_word.proofs.BaseRows.{AreFirst}
+use Rattle.measure.proofs.tables.base_entries.Given as goal
+
+abbrev pub invariant-loop-output : goal.invariant-loop-output
+invariant-loop-output l = AreFirst l.fn.setup l.made l.output
+""",
+        "base_entries/Answers.antt": """use Rattle.std.proofs.Common.{◌≡◌, ℕ, ◌+◌, ◌≤◌, List, [], ◌∷◌, ◌++◌, length, sym, ap, ◌∙◌, subst, arith}
+use Rattle.map_entry.specs.declared.entry.Entry.{Entry}
+use Rattle.map_entry.specs.Setup.{SetupParts, IsSetup}
+use Rattle.claim_word.specs.Starts.{IsBase}
+use Rattle.claim_word.proofs.BaseRows.{AreFirst, first_base, first_more, first_none}
+use Rattle.measure.proofs.tables.base_entries.Goals as goal
+
+pub loop-output-init : goal.loop-output-init
+loop-output-init c = subst (λ (es : List Entry). AreFirst c.args.setup.now es 0) (sym c.new-made.ensures) (first_none c.args.setup.now)
+
+pub loop-output-preserved : goal.loop-output-preserved
+loop-output-preserved c =
+    let s : SetupParts = c.args.setup.now in let o : ℕ = c.loop-output.output in let e = c.in_ok-entry.ensures in
+    subst (λ (es : List Entry). AreFirst s es (o + 1)) (sym c.in_ok-push.ensures.ok)
+    (first_more s c.loop-output.made o c.in_ok-entry.entry c.loop-output.invariant e.output e.tick e.offset e.at e.ok)
+
+pub returns-clause-base : goal.returns-clause-base
+returns-clause-base c =
+    let s : SetupParts = c.args.setup.now in
+    let n : c.outputs-output-end.result ≡ length s.device.outputs = c.outputs-output-end.ensures.value ∙ ap (λ (x : SetupParts). length x.device.outputs) c.setup.view_is in
+    let all : c.loop-output.output ≡ length s.device.outputs = omega (arith, c.loop-output-test.false, c.loop-output.auto.output-end, n) in
+    first_base s c.loop-output.made (subst IsSetup c.setup.view_is c.setup.invariant) (subst (AreFirst s c.loop-output.made) all c.loop-output.invariant)
+
+pub returns-clause-few : goal.returns-clause-few
+returns-clause-few c =
+    let valid = subst IsSetup c.setup.view_is c.setup.invariant in valid.device.bounds.few_outputs
+""",
+        "start/Answers.antt": """use Rattle.std.proofs.Common.{ℕ, ◌*◌, ◌≤◌, length, arith}
+use Rattle.std.proofs.Math.Nat.{mul-le-mul_right}
+use Rattle.io_caps.specs.declared.limits.TheConstants.{LAP_TICKS}
+use Rattle.measure.proofs.tables.start.Goals as goal
+
+pub start-requires-clause-claims : goal.start-requires-clause-claims
+start-requires-clause-claims c =
+    let n : ℕ = length c.args.setup.now.device.outputs in
+    let few = c.in_ok-base_entries.ensures.few in
+    let m : c.args.ticks * n ≤ LAP_TICKS * n = mul-le-mul_right n c.requires in omega arith
+""",
+    },
+)
+
+ENTRIES = Module(
+    "entries",
+    """//! Claim tables that are filled up to a given number of entries.
+
+ghost use Rattle.std.specs.Prelude.{◌≡◌, ◌≤◌, ◌∷◌, [], IfOk, IsTrue, length};
+ghost use Rattle.map_entry.specs.Row.{IsRowOf};
+ghost use Rattle.map_entry.specs.Tick.{first_tick};
+ghost use Rattle.claim_rule.specs.declared.words.TheConstants.{TICKS_LIMIT};
+ghost use Rattle.claim_word.specs.Faces.{IsPublisherOf};
+ghost use Rattle.claim_word.specs.States.{HasSeen};
+
+use crate::setups::row;
+use anyhow::{Result, anyhow};
+use claim_rule::TICKS_LIMIT;
+use claim_word::{ClaimTable, Publisher, State};
+use io_caps::limits::PLACES;
+use io_caps::{Device, ListOf, NoMemory};
+use map_entry::{CLAIMS_LIMIT, Cell, Entry, Row, Setup, check_row, first_tick};
+use std::alloc::Global;
 
 fn is_row(device: &Device, output: u8, row: &Row) -> bool
     ensures { IsTrue result → IsRowOf device.now output row.now }
@@ -148,73 +238,10 @@ pub fn fill(
 }
 """,
     {
-        "base_entry/Answers.antt": """use Rattle.std.proofs.Common.{◌≡◌, ℕ, ◌<◌, List, length, Some, refl, sym, ap, ◌∙◌, subst, arith}
-use Rattle.std.specs.Prelude.{slice_get}
-use Rattle.std.proofs.lemmas.Option.{slice_get_read}
-use Rattle.map_entry.specs.declared.cell.Cell.{Cell}
-use Rattle.map_entry.specs.Entry.{entry_of, IsEntryOk}
-use Rattle.map_entry.specs.Setup.{SetupParts, IsSetup}
-use Rattle.map_entry.proofs.Rows.{base_row, rows_long}
-use Rattle.measure.proofs.tables.base_entry.Goals as goal
-
-pub bounds-rows-output : goal.bounds-rows-output
-bounds-rows-output c =
-    let rows = c.as_slice-rows.ensures ∙ ap (λ (s : SetupParts). s.rows) c.setup.view_is in
-    let valid = subst IsSetup c.setup.view_is c.setup.invariant in
-    omega (arith, c.requires, rows_long c.args.setup.now valid, ap length rows)
-
-pub returns-clause-ok : goal.returns-clause-ok
-returns-clause-ok c =
-    let s : SetupParts = c.args.setup.now in let o : ℕ = c.args.output in
-    let rows = c.as_slice-rows.ensures ∙ ap (λ (x : SetupParts). x.rows) c.setup.view_is in
-    let valid = subst IsSetup c.setup.view_is c.setup.invariant in
-    let read = slice_get_read s.rows _ o _ refl (omega (arith, c.requires, rows_long s valid)) (rw rows at c.index-rows-output.is) in
-    subst (IsEntryOk s.device) (sym (c.new.ensures ∙ ap (λ (r : List Cell). entry_of o c.base.result 0 r 0) c.in_ok-row.ensures))
-    (record { row = base_row s o c.index-rows-output.result valid read; offset = valid.device.bounds.rate.1 })
-""",
-        "base_entries/Invariants.antt": """use Rattle.claim_word.proofs.BaseRows.{AreFirst}
-use Rattle.measure.proofs.tables.base_entries.Given as goal
-
-abbrev pub invariant-loop-output : goal.invariant-loop-output
-invariant-loop-output l = AreFirst l.fn.setup l.made l.output
-""",
-        "base_entries/Answers.antt": """use Rattle.std.proofs.Common.{◌≡◌, ℕ, ◌+◌, ◌≤◌, List, [], ◌∷◌, ◌++◌, length, sym, ap, ◌∙◌, subst, arith}
-use Rattle.map_entry.specs.declared.entry.Entry.{Entry}
-use Rattle.map_entry.specs.Setup.{SetupParts, IsSetup}
-use Rattle.claim_word.specs.Starts.{IsBase}
-use Rattle.claim_word.proofs.BaseRows.{AreFirst, first_base, first_more, first_none}
-use Rattle.measure.proofs.tables.base_entries.Goals as goal
-
-pub loop-output-init : goal.loop-output-init
-loop-output-init c = subst (λ (es : List Entry). AreFirst c.args.setup.now es 0) (sym c.new-made.ensures) (first_none c.args.setup.now)
-
-pub loop-output-preserved : goal.loop-output-preserved
-loop-output-preserved c =
-    let s : SetupParts = c.args.setup.now in let o : ℕ = c.loop-output.output in let e = c.in_ok-entry.ensures in
-    subst (λ (es : List Entry). AreFirst s es (o + 1)) (sym c.in_ok-push.ensures.ok)
-    (first_more s c.loop-output.made o c.in_ok-entry.entry c.loop-output.invariant e.output e.tick e.offset e.at e.ok)
-
-pub returns-clause-base : goal.returns-clause-base
-returns-clause-base c =
-    let s : SetupParts = c.args.setup.now in
-    let n : c.outputs-output-end.result ≡ length s.device.outputs = c.outputs-output-end.ensures.value ∙ ap (λ (x : SetupParts). length x.device.outputs) c.setup.view_is in
-    let all : c.loop-output.output ≡ length s.device.outputs = omega (arith, c.loop-output-test.false, c.loop-output.auto.output-end, n) in
-    first_base s c.loop-output.made (subst IsSetup c.setup.view_is c.setup.invariant) (subst (AreFirst s c.loop-output.made) all c.loop-output.invariant)
-
-pub returns-clause-few : goal.returns-clause-few
-returns-clause-few c =
-    let valid = subst IsSetup c.setup.view_is c.setup.invariant in valid.device.bounds.few_outputs
-""",
-        "start/Answers.antt": """use Rattle.std.proofs.Common.{ℕ, ◌+◌, ◌*◌, ◌<◌, ◌≤◌, length, arith}
-use Rattle.measure.proofs.tables.start.Goals as goal
-
-pub start-requires-clause-claims : goal.start-requires-clause-claims
-start-requires-clause-claims c = let few = c.in_ok-base_entries.ensures.few in omega arith
-""",
         "is_timely/Answers.antt": """use Rattle.std.proofs.Common.{◌≡◌, ℕ, ◌^◌, ◌<◌, length, sym, subst, arith}
 use Rattle.map_entry.specs.Tick.{first_tick}
 use Rattle.claim_word.proofs.Bounds.{first_tick-few}
-use Rattle.measure.proofs.tables.is_timely.Goals as goal
+use Rattle.measure.proofs.entries.is_timely.Goals as goal
 
 pub first_tick-requires-clause-sum : goal.first_tick-requires-clause-sum
 first_tick-requires-clause-sum c =
@@ -223,7 +250,7 @@ first_tick-requires-clause-sum c =
     (first_tick-few d (length d.outputs) c.args.claims c.base.ensures.valid (omega arith))
 """,
         "fill/Invariants.antt": """use Rattle.claim_word.specs.Faces.{IsPublisherOf}
-use Rattle.measure.proofs.tables.fill.Given as goal
+use Rattle.measure.proofs.entries.fill.Given as goal
 
 abbrev pub invariant-loop-at : goal.invariant-loop-at
 invariant-loop-at l = IsPublisherOf l.fn.table l.publisher
@@ -237,9 +264,10 @@ CLAIMS = Module(
 
 ghost use Rattle.claim_word.specs.Faces.{IsPassOf};
 
+use crate::entries::fill;
 use crate::setups::setup;
 use crate::spent::Spent;
-use crate::tables::{fill, start};
+use crate::tables::start;
 use anyhow::{Result, anyhow};
 use claim_word::{ClaimTable, Claimed, WorkerPass};
 use map_entry::Setup;
@@ -248,8 +276,10 @@ use std::time::{Clock, Instant};
 
 const TABLES: u64 = 64;
 
-/// The packets of a table: 256 ticks of two outputs.
-const PACKETS: u64 = 512;
+const TICKS: u64 = 256;
+
+/// The packets of a table, of two outputs.
+const PACKETS: u64 = 2 * TICKS;
 
 /// Claims all packets: the number of the last.
 fn claim_all(table: &ClaimTable, pass: &mut WorkerPass) -> u64
@@ -288,7 +318,7 @@ struct Running {
 }
 
 fn start_with(alloc: Global, setup: &Setup, entries: u64) -> Result<Running> {
-    let (table, mut publisher) = start(alloc, setup)?;
+    let (table, mut publisher) = start(alloc, setup, TICKS)?;
     fill(alloc, setup, &table, &mut publisher, entries)?;
     let pass = publisher.worker(&table)?;
     Ok(Running { table, pass })
@@ -341,7 +371,7 @@ def claims() -> Measurement:
     sizes = (2, 100, 500)
     return Measurement(
         crates="io_caps map_entry claim_rule claim_word",
-        modules=[DEVICE, SETUPS, TABLES, CLAIMS],
+        modules=[DEVICE, SETUPS, BASES, ENTRIES, CLAIMS],
         cases=[
             (f"claim, {size} entries", f"claims::measure(&rt, alloc, {size}, false)")
             for size in sizes
