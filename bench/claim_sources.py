@@ -135,7 +135,7 @@ ENTRIES = Module(
     "entries",
     """//! Claim tables that are filled up to a given number of entries.
 
-ghost use Rattle.std.specs.Prelude.{◌≡◌, ◌≤◌, ◌∷◌, [], IfOk, IsTrue, length};
+ghost use Rattle.std.specs.Prelude.{◌≡◌, ◌<◌, ◌≤◌, ◌∷◌, [], IfOk, IsTrue, length};
 ghost use Rattle.map_entry.specs.Row.{IsRowOf};
 ghost use Rattle.map_entry.specs.Tick.{first_tick};
 ghost use Rattle.claim_rule.specs.declared.words.TheConstants.{TICKS_LIMIT};

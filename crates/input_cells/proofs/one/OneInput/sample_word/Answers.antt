@@ -1,4 +1,4 @@
-use Rattle.std.proofs.Common.{◌≡◌, ℕ, ◌+◌, ◌*◌, ◌<◌, ◌≤◌, ap, arith}
+use Rattle.std.proofs.Common.{◌≡◌, ℕ, ◌*◌, ap, arith}
 use Rattle.input_cells.specs.Faces.{InputFace}
 use Rattle.input_cells.proofs.Seats.{channel_ends}
 use Rattle.input_cells.proofs.one.OneInput.sample_word.Goals as goal
