@@ -13,6 +13,7 @@ pub mod OpeningLaws
 pub mod RunLaws
 pub mod Once
 pub mod Whole
+pub mod Written
 pub mod Lengths
 pub mod DeviceFits
 pub mod ResultLaws

@@ -132,6 +132,19 @@ pub record IsCaptureAt (bytes : List ℕ) (c : CaptureParts) (at : ℕ) : Type 0
   pub within : at ≤ length bytes
   pub text : IsCaptureText c (take at bytes)
 
+-- ---- what is written
+
+-- what stands in front of a capture's records: the magic, the record of its device, and what says
+-- its grain
+abbrev pub front_text : Format → ℕ × List ℕ → List ℕ → List ℕ
+front_text format device grain = capture_magic format ++ (text_of device ++ grain)
+
+-- these bytes say a grain after a device, in front of records of other kinds: in format 1 there are
+-- none; in format 2 they are its record, or none, which say that changes count from ticks
+abbrev pub IsGrainText : Format → Grain → List ℕ → Type 0
+IsGrainText One grain text = (grain ≡ Tick) × (text ≡ [])
+IsGrainText Two grain text = (text ≡ grain_text grain) ⊎ ((grain ≡ Tick) × (text ≡ []))
+
 -- ---- answers
 
 -- this capture up to this place, unless memory ran out

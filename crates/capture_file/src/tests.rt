@@ -25,17 +25,17 @@ use std::test::Fail;
 use tai_time::Tai;
 
 /// A place and what stands from there on, and the fault.
-type Faults<'a> = &'a [(&'a str, u64, CaptureKind)];
+pub(crate) type Faults<'a> = &'a [(&'a str, u64, CaptureKind)];
 
 /// The magic, and a device with an input of two channels and two outputs of two.
-const FRONT: &str = "43484d434150310a
+pub(crate) const FRONT: &str = "43484d434150310a
     44 00000034 0000bb80 0002 0000000000000000 01 01 02
     01 61 02 10 60 01 01
     01 78 02 10 60 00000001 ff ff00 ff00
     01 79 02 18 61 00000002 ff ff00 ff00";
 
 /// A packet, claims, and an activation at once between two claims of one tick.
-const MID_TICK: &str = "50 00000015 00 8060 0000 00000004 00000063 1111 2222 3333 4444
+pub(crate) const MID_TICK: &str = "50 00000015 00 8060 0000 00000004 00000063 1111 2222 3333 4444
     54 00000004 00000003
     41 0000000d 00 00 02 00 01 000000 01 01 000001
     54 00000004 00000003
@@ -80,7 +80,12 @@ fn fault_of(alloc: Global, bytes: &[u8]) -> Result<Option<CaptureFault>, Fail> {
 }
 
 /// The first row that has another fault after these digits, where places count from `from`.
-fn wrong(alloc: Global, front: &str, from: u64, rows: Faults<'_>) -> Result<Option<usize>, Fail> {
+pub(crate) fn wrong(
+    alloc: Global,
+    front: &str,
+    from: u64,
+    rows: Faults<'_>,
+) -> Result<Option<usize>, Fail> {
     for (number, row) in rows.iter().enumerate() {
         let mut bytes = hex(alloc, front)?;
         add_hex(&mut bytes, row.0)?;
